@@ -22,6 +22,7 @@ const LIMITS: Limits = Limits {
     kills: 60,
     ignore_dups: false,
     ignore_space: false,
+    multiline: false,
 };
 
 /// Brings the cursor to a row in which nothing was written. Returns whether the terminal answers where it is.

@@ -135,7 +135,7 @@ Copies text count old new =
 
 -- The history was copied as a text, if memory was had for it.
 abbrev pub CopiesHistory : EditorState → Answer → ℕ → ℕ → List ℕ → List ℕ → Type 0
-CopiesHistory w GoesOn length_old length_new old new = Copies (saved w.history) length_new old new
+CopiesHistory w GoesOn length_old length_new old new = Copies (saved w.limits.multiline w.history) length_new old new
 CopiesHistory w NoMemory length_old length_new old new = (length_new ≡ length_old) × (new ≡ old)
 CopiesHistory w a length_old length_new old new = ⊥
 

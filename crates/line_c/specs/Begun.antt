@@ -1,5 +1,5 @@
 -- What the call answers that begins an editor.
-use Rattle.std.specs.Prelude.{◌≡◌, ◌⊎◌, ℕ, Some}
+use Rattle.std.specs.Prelude.{◌≡◌, ◌⊎◌, ℕ, false, Some}
 use Rattle.line_editor.specs.declared.limits.Limits.{Limits}
 use Rattle.line_c.specs.declared.answers.Answer.TheVariants.{GoesOn, NoMemory}
 use Rattle.line_c.specs.declared.calls.LineLimits.{LineLimits}
@@ -7,7 +7,7 @@ use Rattle.line_c.specs.declared.keeping.LineSlot.{LineSlot}
 use Rattle.line_c.specs.Answers.{IsFresh, answer_number}
 use Rattle.line_c.specs.Kept.{LineState}
 
--- The editor's limits, by those of C.
+-- The editor's limits, by those of C. A line has one row.
 abbrev pub limits_of : LineLimits → Limits
 limits_of limits = record {
   bytes = limits.bytes;
@@ -16,6 +16,7 @@ limits_of limits = record {
   kills = limits.kills;
   ignore_dups = limits.ignore_dups;
   ignore_space = limits.ignore_space;
+  multiline = false;
 }
 
 -- An editor lies behind the pointer, with these limits and nothing written. Or memory was refused, and the place is as it was.

@@ -33,7 +33,7 @@ pub struct LineLimits {
 }
 
 impl LineLimits {
-    /// The editor's limits.
+    /// The editor's limits. A line has one row.
     fn limits(&self) -> Limits
         ensures { result ≡ limits_of self.now }
     {
@@ -44,6 +44,7 @@ impl LineLimits {
             kills: self.kills,
             ignore_dups: self.ignore_dups,
             ignore_space: self.ignore_space,
+            multiline: false,
         }
     }
 }

@@ -5,7 +5,7 @@ use Rattle.line_editor.specs.declared.places.Target.{Target}
 use Rattle.line_editor.specs.Splits.{Split}
 use Rattle.line_editor.specs.Edits.{cut_text, empty_line, erased, inserted, line_with, meeting, transposed}
 use Rattle.line_editor.specs.Kills.{kill_at, kills_with}
-use Rattle.line_editor.specs.Shown.{is_shown}
+use Rattle.line_editor.specs.Shown.{comes_in}
 use Rattle.line_editor.specs.States.{DraftState, EditorState, LeftLine, changed, before_yank, draft_changed, draft_of, erase_cut, fresh, kill_cut, next_yank, popped_to, redo_to, transpose_at, type_char, after_typing, undo_to, with_draft, write}
 use Rattle.line_editor.specs.inside.Changes.{draft_redone, draft_typed, draft_undone}
 use Rattle.line_editor.specs.declared.limits.Limits.{Limits}
@@ -69,7 +69,7 @@ module _ (w : EditorState) (d : Split) (text wanted : List ℕ) (same : w.line �
   write_some c rest some line f =
       ap (λ (l : Split). changed l w) (f ∙ ap (λ t. inserted t d) some ∙ ap (inserted (c ∷ rest)) (sym same)) ∙ sym (ap (λ t. write t w) (sym e ∙ some))
 
-pub type_some : (c : ℕ) (w : EditorState) (d line : Split) (text : List ℕ) → w.line ≡ d → is_shown c ≡ true → text ≡ c ∷ [] → line ≡ inserted text d
+pub type_some : (c : ℕ) (w : EditorState) (d line : Split) (text : List ℕ) → w.line ≡ d → comes_in w.limits.multiline c ≡ true → text ≡ c ∷ [] → line ≡ inserted text d
     → after_typing line w ≡ type_char c w
 type_some c w d line text same here one f =
     ap (λ (l : Split). after_typing l w) (f ∙ ap (λ t. inserted t d) one ∙ ap (inserted (c ∷ [])) (sym same)) ∙ (rw here refl)

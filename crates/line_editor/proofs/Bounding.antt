@@ -8,7 +8,7 @@ use Rattle.std.specs.Option.{option_map}
 use Rattle.std.specs.Str.{bytes_eq}
 use Rattle.unicode_segmentation.proofs.TextLemmas.{encode_utf8_nonempty}
 use Rattle.line_editor.specs.declared.actions.Action.{Action}
-use Rattle.line_editor.specs.declared.actions.Action.TheVariants.{Insert, Go, Erase, Kill, Yank, YankPop, Transpose, Undo, Redo, Older, Newer, Search, SearchForward, CaseWord, TransposeWords, EraseBlanks, LastWord}
+use Rattle.line_editor.specs.declared.actions.Action.TheVariants.{Insert, Go, Erase, Kill, Yank, YankPop, Transpose, Undo, Redo, Older, Newer, RowUp, RowDown, Search, SearchForward, CaseWord, TransposeWords, EraseBlanks, LastWord}
 use Rattle.line_editor.specs.declared.actions.Case.{Case}
 use Rattle.line_editor.specs.declared.last.Last.{Last}
 use Rattle.line_editor.specs.declared.last.Last.TheVariants.{Other}
@@ -20,18 +20,19 @@ use Rattle.line_editor.specs.Bounded.{ArePlaces, AreRoomy, IsBounded, IsHeld, Is
 use Rattle.line_editor.specs.Bounds.{cased_more, is_too_long, more_by, popped_more, room_of, size, taken_more}
 use Rattle.line_editor.specs.Cases.{recased}
 use Rattle.line_editor.specs.Edits.{cut_text, empty_line, erased, has_two_words, inserted, is_beside_blank, line_with, meeting, transposed, without_blanks, words_transposed}
-use Rattle.line_editor.specs.History.{loaded_line, has_room, lines_of, loaded}
+use Rattle.line_editor.specs.History.{line_read, loaded_line, has_room, lines_of, loaded}
 use Rattle.line_editor.specs.Kills.{kill_at}
 use Rattle.line_editor.specs.Places.{target_place}
 use Rattle.line_editor.specs.Seeking.{begun, brought, found_here, found_next, has_found, is_ahead, is_more, is_seeking, put_back, sought_more, sought_next, sought_on, sought_with}
-use Rattle.line_editor.specs.Shown.{AreShown, blanked, is_shown, pasted_part, shown_part}
+use Rattle.line_editor.specs.Shown.{AreIn, comes_in, part_in, pasted_part}
 use Rattle.line_editor.specs.Splits.{Split, line_text}
-use Rattle.line_editor.specs.States.{DraftState, EditorState, LeftLine, LineSearch, acted, after, before_taken, before_yank, brought_to, case_cut, changed, draft_at, draft_of, dropped, erase_blanks, erase_cut, found, found_line, found_newer, fresh, gone_to, is_empty, is_ignored, kill_cut, last_after, left_at, line_at, line_or, moved, new_draft, newer_from, next_taken, next_word, next_yank, popped_to, redo_to, remembered, rung, searched_forward, searched_to, shown_as, sought, taken, taken_to, transpose_at, transpose_words, type_char, after_typing, undo_to, with_draft, left_but, write, yanked}
+use Rattle.line_editor.specs.States.{by_row, row_beside, DraftState, EditorState, LeftLine, LineSearch, acted, after, before_taken, before_yank, brought_to, case_cut, changed, draft_at, draft_of, dropped, erase_blanks, erase_cut, found, found_line, found_newer, fresh, gone_to, is_empty, is_ignored, kill_cut, last_after, left_at, line_at, line_or, moved, new_draft, newer_from, next_taken, next_word, next_yank, popped_to, redo_to, remembered, rung, searched_forward, searched_to, shown_as, sought, taken, taken_to, transpose_at, transpose_words, type_char, after_typing, undo_to, with_draft, left_but, write, yanked}
 use Rattle.line_editor.specs.Tasks.{Task, Acts, Pastes, Accepts, LetsGo, Loads, Seeks, SeeksMore, SeeksLess, GivesUp, Ends, Clears, Closes, Nothing, done, task_more}
 use Rattle.line_editor.proofs.Counting.{IsBy, few-left, first-within, get-within, last-within, places-moved, some-both}
 use Rattle.line_editor.proofs.Held.{Found, all-drop, all-get, all-take, cut-shown, end-after, found-held, last-held, held-erased, held-found, held-inserted, held-moved, held-replaced, held-same, held-transposed, yank-before}
 use Rattle.line_editor.proofs.Keeping.{keeps_text}
 use Rattle.line_editor.proofs.Ringing.{behind-front, kill-shown, some-weaker, with-shown}
+use Rattle.line_editor.proofs.Rowing.{row_text}
 use Rattle.line_editor.proofs.Showing.{shown-filter}
 use Rattle.line_editor.proofs.Sizing.{size-cons}
 use Rattle.line_editor.proofs.Undoing.{gone_history}
@@ -232,18 +233,18 @@ module _ (w : EditorState) (h : IsBounded w) where
     searched = h.searched;
   }
 
-  bounded-type : (c : ℕ) → is_too_long (size (shown_part (c ∷ []))) w ≡ false → IsBounded (type_char c w)
+  bounded-type : (c : ℕ) → is_too_long (size (part_in w.limits.multiline (c ∷ []))) w ≡ false → IsBounded (type_char c w)
   bounded-type c room =
-      elim (cases_Bool (is_shown c)) [
+      elim (cases_Bool (comes_in w.limits.multiline c)) [
         | inl here ↦ rw here (
-            let one : shown_part (c ∷ []) ≡ c ∷ [] = rw here refl in
+            let one : part_in w.limits.multiline (c ∷ []) ≡ c ∷ [] = rw here refl in
             let P : List ℕ → Type 0 = λ t. is_too_long (size t) w ≡ false in
             bounded-typed (inserted (c ∷ []) w.line)
             (held-inserted w.limits (c ∷ []) w.line h.line (and_from _ _ here refl) (has_room_for (c ∷ []) w (subst P one room))))
         | inr not_here ↦ rw not_here h
       ]
 
-  bounded-write : (text : List ℕ) → AreShown text → is_too_long (size text) w ≡ false → IsBounded (write text w)
+  bounded-write : (text : List ℕ) → AreIn w.limits.multiline text → is_too_long (size text) w ≡ false → IsBounded (write text w)
   bounded-write [] k room = h
   bounded-write (c ∷ text) k room =
       bounded-changed (inserted (c ∷ text) w.line) (held-inserted w.limits (c ∷ text) w.line h.line k (has_room_for (c ∷ text) w room))
@@ -252,7 +253,7 @@ module _ (w : EditorState) (h : IsBounded w) where
   bounded-erase [] target = h
   bounded-erase (c ∷ piece) target = bounded-changed (erased target w.line) (held-erased w.limits target w.line h.line)
 
-  bounded-kill : (piece : List ℕ) (target : Target) → AreShown piece → IsBounded (kill_cut piece target w)
+  bounded-kill : (piece : List ℕ) (target : Target) → AreIn w.limits.multiline piece → IsBounded (kill_cut piece target w)
   bounded-kill [] target k = h
   bounded-kill (c ∷ piece) target k =
       let b = bounded-changed (erased target w.line) (held-erased w.limits target w.line h.line) in
@@ -262,7 +263,7 @@ module _ (w : EditorState) (h : IsBounded w) where
         past = b.past;
         undone = b.undone;
         history = b.history;
-        kills = with-shown w.limits.kills w.last target (c ∷ piece) w.kills k h.kills;
+        kills = with-shown w.limits.multiline w.limits.kills w.last target (c ∷ piece) w.kills k h.kills;
         pattern = b.pattern;
         began = b.began;
         lines = b.lines;
@@ -318,7 +319,7 @@ module _ (w : EditorState) (h : IsBounded w) where
   bounded-popped (Some before) k room =
       let next = kill_at w.kills (next_yank w) in
       let b = bounded-changed (line_with (record { before = before; after = [] }) next w.line)
-      (held-replaced w.limits w.line before (yanked w) next h.line k (kill-shown w.kills (next_yank w) h.kills)
+      (held-replaced w.limits w.line before (yanked w) next h.line k (kill-shown w.limits.multiline w.kills (next_yank w) h.kills)
       (ltb-false (room_of w) (size next - size (yanked w)) room)) in
       record {
         line = b.line;
@@ -443,18 +444,29 @@ module _ (w : EditorState) (h : IsBounded w) where
             (ltb-false (room_of w) (size (next_word w) - size (taken w)) room)))
       ]
 
+  beside_text : (up : Bool) → IfSome (row_beside up w) (λ d. line_text d ≡ line_text w.line)
+  beside_text up = elim (cases_Bool w.limits.multiline) [ inl several ↦ rw several (row_text up w.line) | inr one ↦ rw one tt ]
+
+  bounded-row : (place : Option Split) (other : EditorState) → IfSome place (λ d. line_text d ≡ line_text w.line) → IsBounded other → IsBounded (by_row place other w)
+  bounded-row None other text k = k
+  bounded-row (Some d) other text k = bounded-moved d (held-same w.limits (line_text d) (line_text w.line) text h.line)
+
   bounded-acted : (action : Action) → is_too_long (more_by action w) w ≡ false → IsBounded (acted action w)
   bounded-acted (Insert c) room = bounded-type c room
   bounded-acted (Go target) room = bounded-moved (target_place target w.line) (held-moved w.limits target w.line h.line)
   bounded-acted (Erase target) room = bounded-erase (cut_text target w.line) target
   bounded-acted (Kill target) room = bounded-kill (cut_text target w.line) target (cut-shown w.limits target w.line h.line)
-  bounded-acted Yank room = bounded-write (yanked w) (kill-shown w.kills w.yank_at h.kills) room
+  bounded-acted Yank room = bounded-write (yanked w) (kill-shown w.limits.multiline w.kills w.yank_at h.kills) room
   bounded-acted YankPop room = bounded-popped (before_yank w) (yank-before w.last (yanked w) w.line.before) room
   bounded-acted Transpose room = bounded-transpose (meeting w.line.before w.line.after).before
   bounded-acted Undo room = bounded-undo w.past h.past h.steps
   bounded-acted Redo room = bounded-redo w.undone h.undone h.steps
   bounded-acted Older room = bounded-gone (w.back + 1) (line_at (w.back + 1) w) (line_at-held (w.back + 1))
   bounded-acted Newer room = bounded-newer_from w.back
+  bounded-acted RowUp room =
+      bounded-row (row_beside true w) (gone_to (w.back + 1) (line_at (w.back + 1) w) w) (beside_text true)
+      (bounded-gone (w.back + 1) (line_at (w.back + 1) w) (line_at-held (w.back + 1)))
+  bounded-acted RowDown room = bounded-row (row_beside false w) (newer_from w.back w) (beside_text false) (bounded-newer_from w.back)
   bounded-acted Search room =
       bounded-search (found w) (found-held w.limits (sought w) (line_text w.line) w.back (drop w.back w.history) (all-drop w.limits w.history w.back h.history))
       (first-within (sought w) (line_text w.line) (length w.history) w.back (drop w.back w.history) (omega (arith, h.places.0, length-drop w.back w.history)))
@@ -558,7 +570,7 @@ module _ (w : EditorState) (h : IsBounded w) where
 text_of-ended : (text : List ℕ) → line_text (loaded_line text) ≡ text
 text_of-ended text = append-nil (reverse (reverse text)) ∙ reverse-reverse text
 
-kept-ended : (limits : Limits) (text : List ℕ) → AreShown text → has_room limits text ≡ true → IsKept limits (loaded_line text)
+kept-ended : (limits : Limits) (text : List ℕ) → AreIn limits.multiline text → has_room limits text ≡ true → IsKept limits (loaded_line text)
 kept-ended limits text k room =
     let parts = and_parts _ _ room in
     let P : List ℕ → Type 0 = λ t. 0 < size t in (
@@ -576,23 +588,23 @@ all-reverse P [] h = tt
 all-reverse P (d ∷ lines) h =
     subst (AllByRecursion P) (sym (reverse-append (d ∷ []) lines)) (all-append P (reverse lines) (d ∷ []) (all-reverse P lines h.1) (h.0, tt))
 
-all-loaded : (limits : Limits) (lines : List (List ℕ)) → AllByRecursion (IsKept limits) (map loaded_line (filter (has_room limits) (map pasted_part lines)))
+all-loaded : (limits : Limits) (lines : List (List ℕ)) → AllByRecursion (IsKept limits) (map loaded_line (filter (has_room limits) (map (line_read limits.multiline) lines)))
 all-loaded limits [] = tt
 all-loaded limits (line ∷ lines) =
-    elim (cases_Bool (has_room limits (pasted_part line))) [
-      | inl here ↦ rw here (kept-ended limits (pasted_part line) (shown-filter (blanked line)) here, all-loaded limits lines)
+    elim (cases_Bool (has_room limits (line_read limits.multiline line))) [
+      | inl here ↦ rw here (kept-ended limits (line_read limits.multiline line) (shown-filter limits.multiline _) here, all-loaded limits lines)
       | inr not_here ↦ rw not_here (all-loaded limits lines)
     ]
 
 bounded-loaded : (w : EditorState) → IsBounded w → (text : List ℕ) → IsBounded (loaded text w)
 bounded-loaded w h text =
-    let all = reverse (map loaded_line (filter (has_room w.limits) (map pasted_part (lines_of text)))) in
+    let all = reverse (map loaded_line (filter (has_room w.limits) (map (line_read w.limits.multiline) (lines_of text)))) in
     record {
       line = h.line;
       left = tt;
       past = h.past;
       undone = h.undone;
-      history = all-take w.limits (IsKept w.limits) w.limits.lines all (all-reverse (IsKept w.limits) (map loaded_line (filter (has_room w.limits) (map pasted_part (lines_of text)))) (all-loaded w.limits (lines_of text)));
+      history = all-take w.limits (IsKept w.limits) w.limits.lines all (all-reverse (IsKept w.limits) (map loaded_line (filter (has_room w.limits) (map (line_read w.limits.multiline) (lines_of text)))) (all-loaded w.limits (lines_of text)));
       kills = h.kills;
       pattern = held-empty w.limits;
       began = held-empty w.limits;
@@ -605,7 +617,7 @@ bounded-loaded w h text =
 
 bounded-done : (task : Task) (w : EditorState) → IsBounded w → is_too_long (task_more task w) w ≡ false → IsBounded (done task w)
 bounded-done (Acts action) w h room = bounded-after w h action room
-bounded-done (Pastes text) w h room = bounded-last (write (pasted_part text) w) Other (bounded-write w h (pasted_part text) (shown-filter (blanked text)) room)
+bounded-done (Pastes text) w h room = bounded-last (write (pasted_part w.limits.multiline text) w) Other (bounded-write w h (pasted_part w.limits.multiline text) (shown-filter w.limits.multiline _) room)
 bounded-done Accepts w h room = bounded-remembered w h (line_text w.line) refl
 bounded-done LetsGo w h room = bounded-ended w h w.history h.history h.lines
 bounded-done (Loads text) w h room = bounded-loaded w h text

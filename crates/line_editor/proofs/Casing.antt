@@ -1,5 +1,5 @@
 -- Words in another case.
-use Rattle.std.proofs.Common.{◌≡◌, ℕ, true, List, [], ◌∷◌, ◌++◌, sym, ap, ◌∙◌, inl, inr, append_assoc}
+use Rattle.std.proofs.Common.{◌≡◌, Bool, ◌==◌, ℕ, true, false, refl, List, [], ◌∷◌, ◌++◌, sym, ap, ◌∙◌, inl, inr, append_assoc}
 use Rattle.std.proofs.lemmas.Bool.{and_from, and_parts, cases_Bool}
 use Rattle.std.proofs.lemmas.Str.{chars-append}
 use Rattle.std.specs.Prelude.{encode_utf8}
@@ -14,27 +14,32 @@ use Rattle.line_editor.specs.declared.places.Target.TheVariants.{Forward}
 use Rattle.line_editor.specs.Cases.{case_behind, cased, in_case, only_shown, recased}
 use Rattle.line_editor.specs.Edits.{cut_text, line_with}
 use Rattle.line_editor.specs.Places.{target_place}
-use Rattle.line_editor.specs.Shown.{AreShown, is_shown}
+use Rattle.line_editor.specs.Shown.{AreIn, comes_in, is_shown}
 use Rattle.line_editor.specs.Splits.{Split}
 use Rattle.line_editor.specs.States.{EditorState, case_cut, changed}
 
--- ---- what is shown stays shown
+-- ---- what comes into a line stays so
 
-only-shown : (c : ℕ) (chars : List ℕ) → is_shown c ≡ true → is_shown (only_shown c chars) ≡ true
-only-shown c [] h = h
-only-shown c (d ∷ []) h = elim (cases_Bool (is_shown d)) [ inl here ↦ rw here here | inr not_here ↦ rw not_here h ]
-only-shown c (d ∷ e ∷ chars) h = h
+in-shown : (multiline : Bool) (c : ℕ) → is_shown c ≡ true → comes_in multiline c ≡ true
+in-shown false c h = h
+in-shown true c h = elim (cases_Bool (c == 10)) [ inl feed ↦ rw feed refl | inr other ↦ rw other h ]
 
-in_case-shown : (case : Case) (c : ℕ) → is_shown c ≡ true → is_shown (in_case case c) ≡ true
-in_case-shown Upper c h = only-shown c (to_uppercase c) h
-in_case-shown Lower c h = only-shown c (to_lowercase c) h
-in_case-shown Title c h = only-shown c (to_uppercase c) h
+module _ (multiline : Bool) where
+  only-shown : (c : ℕ) (chars : List ℕ) → comes_in multiline c ≡ true → comes_in multiline (only_shown c chars) ≡ true
+  only-shown c [] h = h
+  only-shown c (d ∷ []) h = elim (cases_Bool (is_shown d)) [ inl here ↦ rw here (in-shown multiline d here) | inr not_here ↦ rw not_here h ]
+  only-shown c (d ∷ e ∷ chars) h = h
 
-pub cased-shown : (case : Case) (text : List ℕ) → AreShown text → AreShown (cased case text)
-cased-shown case [] h = h
-cased-shown case (c ∷ text) h =
-    let parts = and_parts _ _ h in
-    and_from _ _ (in_case-shown case c parts.0) (cased-shown (case_behind case c) text parts.1)
+  in_case-shown : (case : Case) (c : ℕ) → comes_in multiline c ≡ true → comes_in multiline (in_case case c) ≡ true
+  in_case-shown Upper c h = only-shown c (to_uppercase c) h
+  in_case-shown Lower c h = only-shown c (to_lowercase c) h
+  in_case-shown Title c h = only-shown c (to_uppercase c) h
+
+  pub cased-shown : (case : Case) (text : List ℕ) → AreIn multiline text → AreIn multiline (cased case text)
+  cased-shown case [] h = h
+  cased-shown case (c ∷ text) h =
+      let parts = and_parts _ _ h in
+      and_from _ _ (in_case-shown case c parts.0) (cased-shown (case_behind case c) text parts.1)
 
 -- ---- a text is brought into a case
 

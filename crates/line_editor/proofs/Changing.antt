@@ -10,7 +10,7 @@ use Rattle.unicode_segmentation.proofs.TextLemmas.{take_split}
 use Rattle.line_editor.specs.Bounds.{size}
 use Rattle.line_editor.specs.Edits.{IsSettled, line_with}
 use Rattle.line_editor.specs.Recent.{rest_of}
-use Rattle.line_editor.specs.Shown.{AreShown}
+use Rattle.line_editor.specs.Shown.{AreRows}
 use Rattle.line_editor.specs.Splits.{Split, bytes_before, split_at}
 use Rattle.line_editor.specs.inside.Changes.{AllFit, EndsBy, Fits, Splice, TakesBack, line_bytes, ended, first_ended, first_reached, lines_by, reached, spliced}
 use Rattle.line_editor.proofs.Settling.{text_of-split_at}
@@ -68,10 +68,10 @@ module _ (text with new part : List ℕ) (from to end at : ℕ)
       let P : ℕ → Type 0 = λ n. IsCharBoundary new n in
       subst P both (IsCharBoundary-at_seam new (take from text ++ with) (drop to text) e (IsUtf8-drop text to u b))
 
-  pub takes_back : (d w : Split) → split_at text at ≡ d → IsCharBoundary text at → IsSettled (split_at text at) → AreShown (chars text)
+  pub takes_back : (d w : Split) → split_at text at ≡ d → IsCharBoundary text at → IsSettled (split_at text at) → AreRows (chars text)
       → line_bytes w ≡ new → TakesBack back d w
   takes_back d w is place settled shown same =
-      let P : List ℕ → Type 0 = λ t. IsUtf8 t × IsCharBoundary t at × IsSettled (split_at t at) × AreShown (chars t) × (line_bytes d ≡ t) × (split_at t at ≡ d) in
+      let P : List ℕ → Type 0 = λ t. IsUtf8 t × IsCharBoundary t at × IsSettled (split_at t at) × AreRows (chars t) × (line_bytes d ≡ t) × (split_at t at ≡ d) in
       let facts : P (spliced back new) = subst P (sym spliced-back) (u, place, settled, shown, line_bytes-line text at u place d is, is) in
       let made : (Fits new back × (spliced back new ≡ line_bytes d) × (split_at (spliced back new) at ≡ d)) = (
         record { order = omega (arith, width, both, length-append (take from text) with); from = new-from; to = new-to; utf8 = facts.0; at = facts.1; settled = facts.2; shown = facts.3 },
@@ -126,7 +126,7 @@ module _ (text new : List ℕ) (at end : ℕ) (c : Splice) (front : take at new 
   pub grown-Fits : Fits new grown
   grown-Fits =
       let within : c.from ≤ length new = omega (arith, le, on, fits.order, b.0) in
-      let P : List ℕ → Type 0 = λ t. IsUtf8 t × IsCharBoundary t c.at × IsSettled (split_at t c.at) × AreShown (chars t) in
+      let P : List ℕ → Type 0 = λ t. IsUtf8 t × IsCharBoundary t c.at × IsSettled (split_at t c.at) × AreRows (chars t) in
       let facts : P (spliced grown new) = subst P (sym spliced-grown) (fits.utf8, fits.at, fits.settled, fits.shown) in
       record {
         order = omega (arith, le, on, fits.order);
@@ -197,7 +197,7 @@ module _ (text : List ℕ) (at : ℕ) (d : Split) (u : IsUtf8 text) (b : IsCharB
 
 -- A line in place of a whole other one.
 pub whole_back : (text with part : List ℕ) (end at : ℕ) (d w : Split) → IsUtf8 text → IsUtf8 with → part ≡ text → end ≡ length with
-    → split_at text at ≡ d → IsCharBoundary text at → IsSettled (split_at text at) → AreShown (chars text) → line_bytes w ≡ with
+    → split_at text at ≡ d → IsCharBoundary text at → IsSettled (split_at text at) → AreRows (chars text) → line_bytes w ≡ with
     → TakesBack (record { from = 0; to = end; text = part; at = at }) d w
 whole_back text with part end at d w u v f g is place settled shown same =
     let all : drop (length text) text ≡ [] = drop_all (length text) text (omega arith) in

@@ -5,15 +5,12 @@ use Rattle.std.proofs.lemmas.Str.{encodes-chars, IsUtf8-append, IsUtf8-take, IsU
 use Rattle.std.specs.List.{insert_slice}
 use Rattle.std.specs.Prelude.{Bool, true, false, encode_utf8_all, zero, suc, Result, Ok, Err, OnErr}
 use Rattle.std.specs.Str.{chars, IsUtf8, IsCharBoundary}
-use Rattle.line_editor.specs.declared.places.Target.{Target}
 use Rattle.line_editor.specs.Edits.{inserted}
-use Rattle.line_editor.specs.Places.{target_place}
 use Rattle.line_editor.specs.Recent.{first_or, pushed_if, rest_of}
 use Rattle.line_editor.specs.Splits.{Split, bytes_before, line_text}
 use Rattle.line_editor.specs.States.{DraftState, draft_changed}
 use Rattle.line_editor.specs.inside.Changes.{AllFit, AreChanges, EndsBy, Splice, TakesBack, line_bytes, draft_redone, draft_typed, draft_undone, first_ended, first_reached, lines_by}
 use Rattle.line_editor.proofs.Changing.{AllFit-take, ended-reached, ends-grown, fit_more, grown-AllFit, grown-lines, lines_by-take, lines_more}
-use Rattle.line_editor.proofs.Keeping.{keeps_text}
 
 -- The state of a line with its changes.
 abbrev pub seen : Split → List Splice → List Splice → Bool → DraftState
@@ -32,9 +29,9 @@ seen_none d v past undone typing g e f =
     ap (λ l. seen d l undone typing) e ∙ ap (λ l. seen d [] l typing) f ∙ ap (λ (x : Split). seen x [] [] typing) g
 
 -- The cursor elsewhere.
-module _ (target : Target) (d w : Split) (past undone : List Splice) (e : w ≡ target_place target d) where
+module _ (d w : Split) (past undone : List Splice) (text : line_text w ≡ line_text d) where
   moved-bytes : line_bytes w ≡ line_bytes d
-  moved-bytes = ap encode_utf8_all (ap line_text e ∙ keeps_text target d)
+  moved-bytes = ap encode_utf8_all text
 
   pub moved-AreChanges : (typing : Bool) → AreChanges d past undone typing → AreChanges w past undone false
   moved-AreChanges typing h =
@@ -42,12 +39,10 @@ module _ (target : Target) (d w : Split) (past undone : List Splice) (e : w ≡ 
       let Q : List ℕ → Type 0 = λ t. AllFit t undone in
       record { back = subst P (sym moved-bytes) h.back; forth = subst Q (sym moved-bytes) h.forth; typed = λ off. absurd (false≢true off) }
 
-  pub seen_moved : (typing : Bool) (s : DraftState) → seen d past undone typing ≡ s
-      → seen w past undone false ≡ record s { line = target_place target s.line; typing = false }
+  pub seen_moved : (typing : Bool) (s : DraftState) → seen d past undone typing ≡ s → seen w past undone false ≡ record s { line = w; typing = false }
   seen_moved typing s is =
       ap (λ t. record { line = w; past = lines_by t past; undone = lines_by t undone; typing = false }) moved-bytes
-      ∙ ap (λ (l : Split). record { line = l; past = lines_by (line_bytes d) past; undone = lines_by (line_bytes d) undone; typing = false }) e
-      ∙ ap (λ (x : DraftState). record x { line = target_place target x.line; typing = false }) is
+      ∙ ap (λ (x : DraftState). record x { line = w; typing = false }) is
 
 EndsBy-take : (n at : ℕ) (c : Splice) (old : List Splice) → c.to ≤ at → EndsBy at (take n (c ∷ old))
 EndsBy-take zero at c old h = tt

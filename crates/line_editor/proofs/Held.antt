@@ -17,7 +17,7 @@ use Rattle.line_editor.specs.Bounded.{IsHeld, IsKept}
 use Rattle.line_editor.specs.Bounds.{size}
 use Rattle.line_editor.specs.Edits.{cut_text, reach_end, erased, from_to, inserted, line_with, meeting, settled, start_of, transposed}
 use Rattle.line_editor.specs.Places.{target_place, stops}
-use Rattle.line_editor.specs.Shown.{AreShown}
+use Rattle.line_editor.specs.Shown.{AreIn}
 use Rattle.line_editor.specs.Splits.{Split, ahead, line_text}
 use Rattle.line_editor.specs.States.{before_yanked, first_with, found_line, last_with, other_rest, rest_at, rest_or}
 use Rattle.line_editor.proofs.Keeping.{cuts_out, ends-IsFrom, from_to-IsFrom, keeps_text, text_of-IsFrom, text_of-joined, writes_at}
@@ -29,7 +29,7 @@ size-append a b = ap length (encodes-append a b) ∙ length-append (encode_utf8_
 
 -- A text that is held.
 abbrev pub Holds : Limits → List ℕ → Type 0
-Holds limits text = AreShown text × (size text ≤ limits.bytes)
+Holds limits text = AreIn limits.multiline text × (size text ≤ limits.bytes)
 
 module _ (limits : Limits) where
   pub held-same : (a b : List ℕ) → a ≡ b → Holds limits b → Holds limits a
@@ -38,11 +38,11 @@ module _ (limits : Limits) where
   pub held-moved : (target : Target) (d : Split) → IsHeld limits d → IsHeld limits (target_place target d)
   held-moved target d h = held-same (line_text (target_place target d)) (line_text d) (keeps_text target d) h
 
-  pub held-inserted : (text : List ℕ) (d : Split) → IsHeld limits d → AreShown text → size text ≤ limits.bytes - size (line_text d) → IsHeld limits (inserted text d)
+  pub held-inserted : (text : List ℕ) (d : Split) → IsHeld limits d → AreIn limits.multiline text → size text ≤ limits.bytes - size (line_text d) → IsHeld limits (inserted text d)
   held-inserted text d h k few =
       let front = reverse d.before in
       held-same (line_text (inserted text d)) (front ++ (text ++ d.after)) (writes_at text d) (
-        shown-append front (text ++ d.after) (shown-front front d.after h.0) (shown-append text d.after k (shown-back front d.after h.0)),
+        shown-append limits.multiline front (text ++ d.after) (shown-front limits.multiline front d.after h.0) (shown-append limits.multiline text d.after k (shown-back limits.multiline front d.after h.0)),
         omega (arith, few, h.1, size-append front (text ++ d.after), size-append text d.after, size-append front d.after),
       )
 
@@ -54,17 +54,17 @@ module _ (limits : Limits) where
       let out = cuts_out target d in
       let all : Holds limits (front ++ (piece ++ back)) = held-same (front ++ (piece ++ back)) (line_text d) (sym out.was) h in
       held-same (line_text (erased target d)) (front ++ back) out.stays (
-        shown-append front back (shown-front front (piece ++ back) all.0) (shown-back piece back (shown-back front (piece ++ back) all.0)),
+        shown-append limits.multiline front back (shown-front limits.multiline front (piece ++ back) all.0) (shown-back limits.multiline piece back (shown-back limits.multiline front (piece ++ back) all.0)),
         omega (arith, all.1, size-append front (piece ++ back), size-append piece back, size-append front back),
       )
 
-  pub cut-shown : (target : Target) (d : Split) → IsHeld limits d → AreShown (cut_text target d)
+  pub cut-shown : (target : Target) (d : Split) → IsHeld limits d → AreIn limits.multiline (cut_text target d)
   cut-shown target d h =
       let front = reverse (start_of target d).before in
       let back = (reach_end target d).after in
       let piece = cut_text target d in
       let all : Holds limits (front ++ (piece ++ back)) = held-same (front ++ (piece ++ back)) (line_text d) (sym (cuts_out target d).was) h in
-      shown-front piece back (shown-back front (piece ++ back) all.0)
+      shown-front limits.multiline piece back (shown-back limits.multiline front (piece ++ back) all.0)
 
   meeting-text : (before after : List ℕ) → line_text (meeting before after) ≡ reverse before ++ after
   meeting-text before [] = keeps_text (Back Cluster) (record { before = before; after = [] })
@@ -88,11 +88,11 @@ module _ (limits : Limits) where
       ∙ ap (λ t. front ++ (x ++ t)) (right.1.after ∙ ap (λ t. t ++ q.after) (sym second)) in
       let all : Holds limits (front ++ (x ++ (y ++ q.after))) =
       held-same (front ++ (x ++ (y ++ q.after))) (line_text d) (sym text ∙ meeting-text d.before d.after) h in
-      let behind = shown-back front (x ++ (y ++ q.after)) all.0 in
-      let later = shown-back x (y ++ q.after) behind in
+      let behind = shown-back limits.multiline front (x ++ (y ++ q.after)) all.0 in
+      let later = shown-back limits.multiline x (y ++ q.after) behind in
       held-same (line_text (transposed d)) (front ++ ((y ++ x) ++ q.after)) (text_of-joined p (y ++ x) q) (
-        shown-append front ((y ++ x) ++ q.after) (shown-front front (x ++ (y ++ q.after)) all.0)
-            (shown-append (y ++ x) q.after (shown-append y x (shown-front y q.after later) (shown-front x (y ++ q.after) behind)) (shown-back y q.after later)),
+        shown-append limits.multiline front ((y ++ x) ++ q.after) (shown-front limits.multiline front (x ++ (y ++ q.after)) all.0)
+            (shown-append limits.multiline (y ++ x) q.after (shown-append limits.multiline y x (shown-front limits.multiline y q.after later) (shown-front limits.multiline x (y ++ q.after) behind)) (shown-back limits.multiline y q.after later)),
         omega (
           arith,
           all.1,
@@ -106,7 +106,7 @@ module _ (limits : Limits) where
       )
 
   -- Another text in place of the one before the cursor.
-  pub held-replaced : (d : Split) (before old new : List ℕ) → IsHeld limits d → d.before ≡ reverse old ++ before → AreShown new
+  pub held-replaced : (d : Split) (before old new : List ℕ) → IsHeld limits d → d.before ≡ reverse old ++ before → AreIn limits.multiline new
       → size new - size old ≤ limits.bytes - size (line_text d) → IsHeld limits (line_with (record { before = before; after = [] }) new d)
   held-replaced d before old new h e k few =
       let front = reverse before in
@@ -116,7 +116,7 @@ module _ (limits : Limits) where
       ∙ append_assoc front old back in
       let all : Holds limits (front ++ (old ++ back)) = held-same (front ++ (old ++ back)) (line_text d) (sym parts) h in
       held-same (line_text (line_with (record { before = before; after = [] }) new d)) (front ++ (new ++ back)) (text_of-joined (record { before = before; after = [] }) new d) (
-        shown-append front (new ++ back) (shown-front front (old ++ back) all.0) (shown-append new back k (shown-back old back (shown-back front (old ++ back) all.0))),
+        shown-append limits.multiline front (new ++ back) (shown-front limits.multiline front (old ++ back) all.0) (shown-append limits.multiline new back k (shown-back limits.multiline old back (shown-back limits.multiline front (old ++ back) all.0))),
         omega (arith, few, h.1, ap size parts, size-append front (old ++ back), size-append old back, size-append front (new ++ back), size-append new back),
       )
 

@@ -1,11 +1,11 @@
 -- A text is inserted at a line's cursor.
-use Rattle.std.proofs.Common.{◌≡◌, ℕ, ◌-◌, List, length, refl, subst}
+use Rattle.std.proofs.Common.{◌≡◌, ℕ, ◌-◌, List, length, refl, subst, true}
 use Rattle.std.specs.List.{insert_slice}
 use Rattle.std.specs.Str.{chars, IsUtf8, IsCharBoundary}
 use Rattle.unicode_segmentation.specs.Segments.{chars_before, chars_from}
 use Rattle.line_editor.specs.Edits.{inserted}
 use Rattle.line_editor.specs.Places.{is_between}
-use Rattle.line_editor.specs.Shown.{AreShown}
+use Rattle.line_editor.specs.Shown.{AreRows}
 use Rattle.line_editor.specs.Splits.{ahead, split_at}
 use Rattle.line_editor.proofs.Settling.{Placed, ahead-Placed, split_at-joined}
 use Rattle.line_editor.proofs.Showing.{shown-spliced}
@@ -20,5 +20,5 @@ module _ (text with new old end : List ℕ) (at found : ℕ) (same : text ≡ ol
   split_at-inserted =
       split_at-joined old with new end at at (length new - (length text - at)) found last (subst IsUtf8 same u) v b b e (rw (same, last) refl) first
 
-  pub inserted-shown : AreShown (chars old) → AreShown (chars with) → AreShown (chars end)
-  inserted-shown h k = shown-spliced old with end at at (subst IsUtf8 same u) v b b h k e
+  pub inserted-shown : AreRows (chars old) → AreRows (chars with) → AreRows (chars end)
+  inserted-shown h k = shown-spliced true old with end at at (subst IsUtf8 same u) v b b h k e

@@ -20,6 +20,7 @@ pub mod Loading
 pub mod Turning
 pub mod Naming
 pub mod Casing
+pub mod Rowing
 pub mod Held
 pub mod Wording
 pub mod Bounding

@@ -14,8 +14,7 @@ use Rattle.unicode_segmentation.specs.Segments.{chars_before, chars_from}
 use Rattle.line_editor.specs.declared.limits.Limits.{Limits}
 use Rattle.line_editor.specs.Bounds.{size}
 use Rattle.line_editor.specs.Edits.{settled}
-use Rattle.line_editor.specs.History.{loaded_line, has_room, lines_of, saved, with_line}
-use Rattle.line_editor.specs.Shown.{pasted_part}
+use Rattle.line_editor.specs.History.{line_read, line_saved, loaded_line, has_room, lines_of, saved, with_line}
 use Rattle.line_editor.specs.Splits.{Split, line_text}
 use Rattle.line_editor.specs.inside.Lines.{IsFirstLine}
 use Rattle.line_editor.proofs.Searching.{from_line, past_lines}
@@ -84,11 +83,18 @@ line_loaded limits text all line history e f room =
 
 -- ---- the lines of a text
 
--- What lines come to, the newest first.
-abbrev pub kept : Limits → List (List ℕ) → List Split
-kept limits lines = reverse (map loaded_line (filter (has_room limits) (map pasted_part lines)))
+pub nothing-read : (multiline : Bool) → line_read multiline [] ≡ []
+nothing-read false = refl
+nothing-read true = refl
 
--- What the lines of a text come to in front of a history.
+-- The lines that a history has of some lines of a text, the newest first.
+abbrev pub kept : Limits → List (List ℕ) → List Split
+kept limits lines = reverse (map loaded_line (filter (has_room limits) (map (line_read limits.multiline) lines)))
+
+pub kept-nothing : (limits : Limits) → kept limits ([] ∷ []) ≡ []
+kept-nothing limits = rw (nothing-read limits.multiline) refl
+
+-- The lines that a history has of a text, in front of other ones.
 abbrev pub loads : Limits → List Split → List ℕ → List Split
 loads limits history text = take limits.lines (kept limits (lines_of text) ++ history)
 
@@ -99,22 +105,23 @@ take_within (suc n) m [] ys le = take-take (suc n) m ys le
 take_within (suc n) m (x ∷ xs) ys le = ap (λ t. x ∷ t) (take_within n m xs ys (omega (arith, le)))
 
 kept_cons : (limits : Limits) (line : List ℕ) (lines : List (List ℕ)) (history : List Split)
-    → take limits.lines (kept limits (line ∷ lines) ++ history) ≡ take limits.lines (kept limits lines ++ with_line limits (pasted_part line) history)
+    → take limits.lines (kept limits (line ∷ lines) ++ history) ≡ take limits.lines (kept limits lines ++ with_line limits (line_read limits.multiline line) history)
 kept_cons limits line lines history =
-    elim (cases_Bool (has_room limits (pasted_part line))) [
+    elim (cases_Bool (has_room limits (line_read limits.multiline line))) [
       | inl here ↦ rw here (
-          ap (λ t. take limits.lines (t ++ history)) (reverse-append (loaded_line (pasted_part line) ∷ []) (map loaded_line (filter (has_room limits) (map pasted_part lines))))
-          ∙ ap (take limits.lines) (append_assoc (kept limits lines) (loaded_line (pasted_part line) ∷ []) history)
-          ∙ sym (take_within limits.lines limits.lines (kept limits lines) (loaded_line (pasted_part line) ∷ history) (omega arith)))
+          ap (λ t. take limits.lines (t ++ history)) (reverse-append (loaded_line (line_read limits.multiline line) ∷ []) (map loaded_line (filter (has_room limits) (map (line_read limits.multiline) lines))))
+          ∙ ap (take limits.lines) (append_assoc (kept limits lines) (loaded_line (line_read limits.multiline line) ∷ []) history)
+          ∙ sym (take_within limits.lines limits.lines (kept limits lines) (loaded_line (line_read limits.multiline line) ∷ history) (omega arith)))
       | inr not_here ↦ rw not_here refl
     ]
 
 pub loads_step : (limits : Limits) (history : List Split) (text line back : List ℕ) → IsFirstLine text line back
-    → loads limits history text ≡ loads limits (with_line limits (pasted_part line) history) back
+    → loads limits history text ≡ loads limits (with_line limits (line_read limits.multiline line) history) back
 loads_step limits history text line back (inl more) = ap (λ t. take limits.lines (kept limits t ++ history)) more ∙ kept_cons limits line (lines_of back) history
 loads_step limits history text line back (inr last) =
     ap (λ t. take limits.lines (kept limits t ++ history)) last.0 ∙ kept_cons limits line [] history
-    ∙ ap (loads limits (with_line limits (pasted_part line) history)) (sym last.1)
+    ∙ ap (λ t. take limits.lines (t ++ with_line limits (line_read limits.multiline line) history)) (sym (kept-nothing limits))
+    ∙ ap (loads limits (with_line limits (line_read limits.multiline line) history)) (sym last.1)
 
 pub with_line-short : (limits : Limits) (text : List ℕ) (history : List Split) → take limits.lines history ≡ history
     → take limits.lines (with_line limits text history) ≡ with_line limits text history
@@ -126,36 +133,42 @@ with_line-short limits text history short =
 
 -- ---- the text of a history
 
--- One line more is behind the older ones.
-pub saved_cons : (d : Split) (history : List Split) → saved (d ∷ history) ≡ saved history ++ (line_text d ++ 10 ∷ [])
-saved_cons d history =
-    let line : Split → List ℕ = λ x. line_text x ++ 10 ∷ [] in
-    ap (flat_map line) (reverse-append (d ∷ []) history) ∙ flat_map-append line (reverse history) (d ∷ [])
-    ∙ ap (λ t. saved history ++ t) (append-nil (line d))
+module _ (multiline : Bool) where
+  -- One line more is behind the older ones.
+  pub saved_cons : (d : Split) (history : List Split) → saved multiline (d ∷ history) ≡ saved multiline history ++ (line_saved multiline (line_text d) ++ 10 ∷ [])
+  saved_cons d history =
+      let line : Split → List ℕ = λ x. line_saved multiline (line_text x) ++ 10 ∷ [] in
+      ap (flat_map line) (reverse-append (d ∷ []) history) ∙ flat_map-append line (reverse history) (d ∷ [])
+      ∙ ap (λ t. saved multiline history ++ t) (append-nil (line d))
 
-pub line_pushed : (old line mid new : List ℕ) → IsUtf8 line → mid ≡ old ++ line → new ≡ mid ++ encode_utf8 10 → new ≡ old ++ encode_utf8_all (chars line ++ 10 ∷ [])
-line_pushed old line mid new u e f =
-    let feed : encode_utf8_all (10 ∷ []) ≡ encode_utf8 10 = append-nil (encode_utf8 10) in
-    f ∙ ap (λ t. t ++ encode_utf8 10) e ∙ append_assoc old line (encode_utf8 10)
-    ∙ ap (λ t. old ++ (t ++ encode_utf8 10)) (sym (encodes-chars line u))
-    ∙ ap (λ t. old ++ (encode_utf8_all (chars line) ++ t)) (sym feed)
-    ∙ ap (λ t. old ++ t) (sym (encodes-append (chars line) (10 ∷ [])))
+  pub line_pushed : (old line mid new : List ℕ) → mid ≡ old ++ encode_utf8_all (line_saved multiline (chars line)) → new ≡ mid ++ encode_utf8 10
+      → new ≡ old ++ encode_utf8_all (line_saved multiline (chars line) ++ 10 ∷ [])
+  line_pushed old line mid new e f =
+      let feed : encode_utf8_all (10 ∷ []) ≡ encode_utf8 10 = append-nil (encode_utf8 10) in
+      let text = line_saved multiline (chars line) in
+      f ∙ ap (λ t. t ++ encode_utf8 10) e ∙ append_assoc old (encode_utf8_all text) (encode_utf8 10)
+      ∙ ap (λ t. old ++ (encode_utf8_all text ++ t)) (sym feed)
+      ∙ ap (λ t. old ++ t) (sym (encodes-append text (10 ∷ [])))
 
-pub saved_step : (lines : List Split) (at : ℕ) (line old new : List ℕ) → 0 < at → Some (chars line) ≡ option_map line_text (slice_get lines (at - 1))
-    → old ≡ encode_utf8_all (saved (drop at lines)) → new ≡ old ++ encode_utf8_all (chars line ++ 10 ∷ []) → new ≡ encode_utf8_all (saved (drop (at - 1) lines))
-saved_step lines at line old new some is e f =
-    let found = from_line lines (at - 1) (chars line) is in
-    let next : suc (at - 1) ≡ at = omega (arith, some) in
-    f ∙ ap (λ t. t ++ encode_utf8_all (chars line ++ 10 ∷ [])) e
-    ∙ ap (λ t. encode_utf8_all (saved (drop at lines)) ++ encode_utf8_all (t ++ 10 ∷ [])) (sym found.2)
-    ∙ sym (encodes-append (saved (drop at lines)) (line_text found.0 ++ 10 ∷ []))
-    ∙ ap encode_utf8_all (sym (saved_cons found.0 (drop at lines)))
-    ∙ ap (λ n. encode_utf8_all (saved (found.0 ∷ drop n lines))) (sym next)
-    ∙ ap (λ t. encode_utf8_all (saved t)) (sym found.1)
+  pub saved_step : (lines : List Split) (at : ℕ) (line old new : List ℕ) → 0 < at → Some (chars line) ≡ option_map line_text (slice_get lines (at - 1))
+      → old ≡ encode_utf8_all (saved multiline (drop at lines)) → new ≡ old ++ encode_utf8_all (line_saved multiline (chars line) ++ 10 ∷ [])
+      → new ≡ encode_utf8_all (saved multiline (drop (at - 1) lines))
+  saved_step lines at line old new some is e f =
+      let found = from_line lines (at - 1) (chars line) is in
+      let next : suc (at - 1) ≡ at = omega (arith, some) in
+      f ∙ ap (λ t. t ++ encode_utf8_all (line_saved multiline (chars line) ++ 10 ∷ [])) e
+      ∙ ap (λ t. encode_utf8_all (saved multiline (drop at lines)) ++ encode_utf8_all (line_saved multiline t ++ 10 ∷ [])) (sym found.2)
+      ∙ sym (encodes-append (saved multiline (drop at lines)) (line_saved multiline (line_text found.0) ++ 10 ∷ []))
+      ∙ ap encode_utf8_all (sym (saved_cons found.0 (drop at lines)))
+      ∙ ap (λ n. encode_utf8_all (saved multiline (found.0 ∷ drop n lines))) (sym next)
+      ∙ ap (λ t. encode_utf8_all (saved multiline t)) (sym found.1)
 
-pub saved_past : (lines : List Split) (at : ℕ) (old : List ℕ) → 0 < at → None ≡ option_map line_text (slice_get lines (at - 1))
-    → old ≡ encode_utf8_all (saved (drop at lines)) → old ≡ encode_utf8_all (saved (drop (at - 1) lines))
-saved_past lines at old some is e =
-    let none = past_lines lines (at - 1) is in
-    let next : suc (at - 1) ≡ at = omega (arith, some) in
-    e ∙ ap (λ n. encode_utf8_all (saved (drop n lines))) (sym next) ∙ ap (λ t. encode_utf8_all (saved t)) (none.1 ∙ sym none.0)
+  pub saved_past : (lines : List Split) (at : ℕ) (old : List ℕ) → 0 < at → None ≡ option_map line_text (slice_get lines (at - 1))
+      → old ≡ encode_utf8_all (saved multiline (drop at lines)) → old ≡ encode_utf8_all (saved multiline (drop (at - 1) lines))
+  saved_past lines at old some is e =
+      let none = past_lines lines (at - 1) is in
+      let next : suc (at - 1) ≡ at = omega (arith, some) in
+      e ∙ ap (λ n. encode_utf8_all (saved multiline (drop n lines))) (sym next) ∙ ap (λ t. encode_utf8_all (saved multiline t)) (none.1 ∙ sym none.0)
+
+pub saved-plain : (multiline : Bool) (line : List ℕ) → multiline ≡ false → IsUtf8 line → line ≡ encode_utf8_all (line_saved multiline (chars line))
+saved-plain multiline line off u = sym (encodes-chars line u) ∙ ap (λ b. encode_utf8_all (line_saved b (chars line))) (sym off)

@@ -12,7 +12,7 @@ use Rattle.crossterm_flags.specs.Values.{same}
 use Rattle.crossterm_flags.specs.Variants.{value_in}
 use Rattle.unicode_segmentation.proofs.TextLemmas.{chars-encode_utf8}
 use Rattle.line_editor.specs.declared.actions.Action.{Action}
-use Rattle.line_editor.specs.declared.actions.Action.TheVariants.{Insert, Go, Erase, Kill, Yank, YankPop, Transpose, Undo, Redo, Older, Newer, Search, SearchForward, CaseWord, TransposeWords, EraseBlanks, LastWord}
+use Rattle.line_editor.specs.declared.actions.Action.TheVariants.{Insert, Go, Erase, Kill, Yank, YankPop, Transpose, Undo, Redo, Older, Newer, RowUp, RowDown, Search, SearchForward, CaseWord, TransposeWords, EraseBlanks, LastWord}
 use Rattle.line_editor.specs.declared.actions.Case.TheVariants.{Upper, Lower, Title}
 use Rattle.line_editor.specs.declared.places.Stop.TheVariants.{Cluster, WordStart, WordEnd, Blank, Edge}
 use Rattle.line_editor.specs.declared.places.Target.{Target}
@@ -59,11 +59,22 @@ space-chars : chars (codes "space") ≡ codes "space"
 unfolding encode_utf8
 space-chars = chars-encodes (codes "space") refl
 
+newline-chars : chars (codes "newline") ≡ codes "newline"
+unfolding encode_utf8
+newline-chars = chars-encodes (codes "newline") refl
+
+-- The character of a text by its name, if the text has more than one.
+abbrev named_else : List ℕ → Option ℕ
+named_else text = if same (codes "space") text then Some 32 else (if same (codes "newline") text then Some 10 else None)
+
 char_back : (c : ℕ) → IsScalar c → char_named (key_char_name c) ≡ Some c
 char_back c h =
     elim (cases_Bool (c == 32)) [
       | inl here ↦ rw here (ap (λ t. option_or (one_char t) (Some 32)) space-chars ∙ ap Some (sym (eqb-true c 32 here)))
-      | inr not_here ↦ rw not_here (ap (λ t. option_or (one_char t) (if same (codes "space") (encode_utf8 c) then Some 32 else None)) (chars-encode_utf8 c (is_text c h)))
+      | inr not_here ↦ elim (cases_Bool (c == 10)) [
+        | inl feed ↦ rw (not_here, feed) (ap (λ t. option_or (one_char t) (Some 10)) newline-chars ∙ ap Some (sym (eqb-true c 10 feed)))
+        | inr other ↦ rw (not_here, other) (ap (λ t. option_or (one_char t) (named_else (encode_utf8 c))) (chars-encode_utf8 c (is_text c h)))
+      ]
     ]
 
 pub reads_back : (action : Action) → NameReadsBack action
@@ -91,6 +102,8 @@ reads_back Undo h = refl
 reads_back Redo h = refl
 reads_back Older h = refl
 reads_back Newer h = refl
+reads_back RowUp h = refl
+reads_back RowDown h = refl
 reads_back Search h = refl
 reads_back SearchForward h = refl
 reads_back (CaseWord Upper) h = refl

@@ -1,5 +1,5 @@
 -- The ring of kills.
-use Rattle.std.proofs.Common.{◌≡◌, ℕ, ◌<◌, ◌≤◌, List, [], ◌∷◌, ◌++◌, length, reverse, take, drop, refl, sym, subst, ap, ◌∙◌, inl, inr, arith, append_assoc, length-append, length-take-le, slice_index_or, take_at, take-append-drop}
+use Rattle.std.proofs.Common.{◌≡◌, Bool, true, ℕ, ◌<◌, ◌≤◌, List, [], ◌∷◌, ◌++◌, length, reverse, take, drop, refl, sym, subst, ap, ◌∙◌, inl, inr, arith, append_assoc, length-append, length-take-le, slice_index_or, take_at, take-append-drop}
 use Rattle.std.proofs.lemmas.Bool.{cases_Bool, eqb-true}
 use Rattle.std.proofs.lemmas.List.{reverse-append, reverse-reverse, take-map}
 use Rattle.std.proofs.lemmas.Str.{encodes-append, encodes-chars, IsUtf8-append, IsUtf8-drop, IsUtf8-take, IsCharBoundary-at_seam}
@@ -13,7 +13,7 @@ use Rattle.line_editor.specs.declared.last.Last.TheVariants.{Killed, Other, Seek
 use Rattle.line_editor.specs.declared.places.Target.{Target}
 use Rattle.line_editor.specs.declared.places.Target.TheVariants.{Back, Forward}
 use Rattle.line_editor.specs.Kills.{kept_by, kill_at, kill_text, kills_before, kills_with, texts}
-use Rattle.line_editor.specs.Shown.{AreShown}
+use Rattle.line_editor.specs.Shown.{AreIn, AreRows}
 use Rattle.line_editor.specs.Splits.{Split, bytes_before, split_at}
 use Rattle.line_editor.specs.States.{behind_front}
 use Rattle.line_editor.specs.inside.Changes.{line_bytes}
@@ -27,37 +27,41 @@ all-first P zero xs h = tt
 all-first P (suc n) [] h = tt
 all-first P (suc n) (x ∷ xs) h = (h.0, all-first P n xs h.1)
 
-pub kill-shown : (kills : List (List ℕ)) (at : ℕ) → AllByRecursion AreShown kills → AreShown (kill_at kills at)
-kill-shown [] at h = refl
-kill-shown (text ∷ kills) zero h = h.0
-kill-shown (text ∷ kills) (suc at) h = kill-shown kills at h.1
+module _ (multiline : Bool) where
+  abbrev Are : List ℕ → Type 0
+  Are text = AreIn multiline text
 
-pub kept-shown : (last : Last) (kills : List (List ℕ)) → AllByRecursion AreShown kills → AreShown (kept_by last kills)
-kept-shown Other kills h = refl
-kept-shown Walked kills h = refl
-kept-shown Killed kills h = kill-shown kills 0 h
-kept-shown Yanked kills h = refl
-kept-shown (Took at) kills h = refl
-kept-shown (Seeking s) kills h = refl
+  pub kill-shown : (kills : List (List ℕ)) (at : ℕ) → AllByRecursion Are kills → Are (kill_at kills at)
+  kill-shown [] at h = refl
+  kill-shown (text ∷ kills) zero h = h.0
+  kill-shown (text ∷ kills) (suc at) h = kill-shown kills at h.1
 
-before-shown : (last : Last) (kills : List (List ℕ)) → AllByRecursion AreShown kills → AllByRecursion AreShown (kills_before last kills)
-before-shown Other kills h = h
-before-shown Walked kills h = h
-before-shown Killed [] h = tt
-before-shown Killed (text ∷ kills) h = h.1
-before-shown Yanked kills h = h
-before-shown (Took at) kills h = h
-before-shown (Seeking s) kills h = h
+  pub kept-shown : (last : Last) (kills : List (List ℕ)) → AllByRecursion Are kills → Are (kept_by last kills)
+  kept-shown Other kills h = refl
+  kept-shown Walked kills h = refl
+  kept-shown Killed kills h = kill-shown kills 0 h
+  kept-shown Yanked kills h = refl
+  kept-shown (Took at) kills h = refl
+  kept-shown (Seeking s) kills h = refl
 
-joined-shown : (target : Target) (text kept : List ℕ) → AreShown text → AreShown kept → AreShown (kill_text target text kept)
-joined-shown (Back stop) text kept k l = shown-append text kept k l
-joined-shown (Forward stop) text kept k l = shown-append kept text l k
+  before-shown : (last : Last) (kills : List (List ℕ)) → AllByRecursion Are kills → AllByRecursion Are (kills_before last kills)
+  before-shown Other kills h = h
+  before-shown Walked kills h = h
+  before-shown Killed [] h = tt
+  before-shown Killed (text ∷ kills) h = h.1
+  before-shown Yanked kills h = h
+  before-shown (Took at) kills h = h
+  before-shown (Seeking s) kills h = h
 
-pub with-shown : (limit : ℕ) (last : Last) (target : Target) (text : List ℕ) (kills : List (List ℕ)) → AreShown text → AllByRecursion AreShown kills
-    → AllByRecursion AreShown (kills_with limit last target text kills)
-with-shown limit last target text kills k h =
-    all-first AreShown limit (kill_text target text (kept_by last kills) ∷ kills_before last kills)
-    (joined-shown target text (kept_by last kills) k (kept-shown last kills h), before-shown last kills h)
+  joined-shown : (target : Target) (text kept : List ℕ) → Are text → Are kept → Are (kill_text target text kept)
+  joined-shown (Back stop) text kept k l = shown-append multiline text kept k l
+  joined-shown (Forward stop) text kept k l = shown-append multiline kept text l k
+
+  pub with-shown : (limit : ℕ) (last : Last) (target : Target) (text : List ℕ) (kills : List (List ℕ)) → Are text → AllByRecursion Are kills
+      → AllByRecursion Are (kills_with limit last target text kills)
+  with-shown limit last target text kills k h =
+      all-first Are limit (kill_text target text (kept_by last kills) ∷ kills_before last kills)
+      (joined-shown target text (kept_by last kills) k (kept-shown last kills h), before-shown last kills h)
 
 -- ---- strings of kills
 
@@ -76,10 +80,10 @@ module _ {A : Type 0} (limit : ℕ) (last : Last) (killed : String A) (items new
       ap texts e ∙ sym (take-map (λ (text : String A). chars (string_bytes text)) limit (killed ∷ kills_before last items))
       ∙ ap (λ t. take limit (chars (string_bytes killed) ∷ t)) (before-texts last items)
 
-  pub kept-all : AreShown (chars (string_bytes killed)) → AllByRecursion AreShown (texts items) → AllByRecursion AreShown (texts new)
+  pub kept-all : AreRows (chars (string_bytes killed)) → AllByRecursion AreRows (texts items) → AllByRecursion AreRows (texts new)
   kept-all k h =
-      subst (AllByRecursion AreShown) (sym kept-texts)
-      (all-first AreShown limit (chars (string_bytes killed) ∷ kills_before last (texts items)) (k, before-shown last (texts items) h))
+      subst (AllByRecursion AreRows) (sym kept-texts)
+      (all-first AreRows limit (chars (string_bytes killed) ∷ kills_before last (texts items)) (k, before-shown true last (texts items) h))
 
 -- The kill at a place of the strings.
 module _ {A : Type 0} where
@@ -93,8 +97,8 @@ module _ {A : Type 0} where
   kill_missed (y ∷ items) zero le = absurd (omega (arith, le))
   kill_missed (y ∷ items) (suc at) le = kill_missed items at (omega (arith, le))
 
-  pub kill_found-shown : (items : List (String A)) (at : ℕ) (text : List ℕ) → text ≡ kill_at (texts items) at → AllByRecursion AreShown (texts items) → AreShown text
-  kill_found-shown items at text e h = subst AreShown (sym e) (kill-shown (texts items) at h)
+  pub kill_found-shown : (items : List (String A)) (at : ℕ) (text : List ℕ) → text ≡ kill_at (texts items) at → AllByRecursion AreRows (texts items) → AreRows text
+  kill_found-shown items at text e h = subst AreRows (sym e) (kill-shown true (texts items) at h)
 
 -- ---- a text that begins or ends with another one
 

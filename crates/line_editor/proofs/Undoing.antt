@@ -4,7 +4,7 @@ use Rattle.std.specs.Prelude.{zero, suc, Option, Some, None, ◌&&◌, ◌==◌}
 use Rattle.std.proofs.lemmas.Bool.{cases_Bool, false≢true}
 use Rattle.std.proofs.lemmas.List.{take_all}
 use Rattle.line_editor.specs.declared.actions.Action.{Action}
-use Rattle.line_editor.specs.declared.actions.Action.TheVariants.{Insert, Go, Erase, Kill, Yank, YankPop, Transpose, Undo, Redo, Older, Newer, Search, SearchForward, CaseWord, TransposeWords, EraseBlanks, LastWord}
+use Rattle.line_editor.specs.declared.actions.Action.TheVariants.{Insert, Go, Erase, Kill, Yank, YankPop, Transpose, Undo, Redo, Older, Newer, RowUp, RowDown, Search, SearchForward, CaseWord, TransposeWords, EraseBlanks, LastWord}
 use Rattle.line_editor.specs.declared.actions.Case.{Case}
 use Rattle.line_editor.specs.declared.last.Last.{Last}
 use Rattle.line_editor.specs.declared.last.Last.TheVariants.{Other}
@@ -15,15 +15,15 @@ use Rattle.line_editor.specs.declared.places.Target.TheVariants.{Forward}
 use Rattle.line_editor.specs.Splits.{Split, line_text}
 use Rattle.line_editor.specs.Edits.{cut_text, has_two_words, is_beside_blank, meeting}
 use Rattle.line_editor.specs.Laws.{ArePlain, CanBeUndone, IsOfLine, KeepsHistory, RedoesUndone, undo_times}
-use Rattle.line_editor.specs.Shown.{is_shown}
-use Rattle.line_editor.specs.States.{EditorState, acted, after, before_taken, before_yank, brought_to, case_cut, erase_blanks, erase_cut, found, found_line, found_newer, gone_to, is_empty, kill_cut, last_after, line_at, newer_from, next_word, popped_to, pushed, redo_to, run_actions, searched_forward, searched_to, sought, taken, taken_to, transpose_at, transpose_words, type_char, after_typing, undo_to, write, yanked}
+use Rattle.line_editor.specs.Shown.{comes_in}
+use Rattle.line_editor.specs.States.{by_row, row_beside, EditorState, acted, after, before_taken, before_yank, brought_to, case_cut, erase_blanks, erase_cut, found, found_line, found_newer, gone_to, is_empty, kill_cut, last_after, line_at, newer_from, next_word, popped_to, pushed, redo_to, run_actions, searched_forward, searched_to, sought, taken, taken_to, transpose_at, transpose_words, type_char, after_typing, undo_to, write, yanked}
 use Rattle.line_editor.proofs.Keeping.{keeps_text}
 use Rattle.line_editor.proofs.Wording.{blanks_history, case_history, taken_history, words_history}
 
 -- ---- history
 
 type_history : (c : ℕ) (w : EditorState) → (type_char c w).history ≡ w.history
-type_history c w = elim (cases_Bool (is_shown c)) [ inl here ↦ rw here refl | inr not_here ↦ rw not_here refl ]
+type_history c w = elim (cases_Bool (comes_in w.limits.multiline c)) [ inl here ↦ rw here refl | inr not_here ↦ rw not_here refl ]
 
 erase_history : (text : List ℕ) (target : Target) (w : EditorState) → (erase_cut text target w).history ≡ w.history
 erase_history [] target w = refl
@@ -72,6 +72,10 @@ forward_history : (front : List ℕ) (w : EditorState) → (searched_forward fro
 forward_history [] w = newer_from_history w.back w
 forward_history (c ∷ front) w = search_history (found_newer w) w
 
+row_history : (place : Option Split) (other w : EditorState) → other.history ≡ w.history → (by_row place other w).history ≡ w.history
+row_history None other w h = h
+row_history (Some d) other w h = refl
+
 pub keeps_history : (action : Action) (w : EditorState) → KeepsHistory action w
 keeps_history (Insert c) w = type_history c w
 keeps_history (Go target) w = refl
@@ -84,6 +88,8 @@ keeps_history Undo w = undo_history w.past w
 keeps_history Redo w = redo_history w.undone w
 keeps_history Older w = gone_history (w.back + 1) (line_at (w.back + 1) w) w
 keeps_history Newer w = newer_from_history w.back w
+keeps_history RowUp w = row_history (row_beside true w) (gone_to (w.back + 1) (line_at (w.back + 1) w) w) w (gone_history (w.back + 1) (line_at (w.back + 1) w) w)
+keeps_history RowDown w = row_history (row_beside false w) (newer_from w.back w) w (newer_from_history w.back w)
 keeps_history Search w = search_history (found w) w
 keeps_history SearchForward w = forward_history (sought w) w
 keeps_history (CaseWord case) w = case_history case (cut_text (Forward WordEnd) w.line) w
@@ -169,7 +175,7 @@ module _ (text : List ℕ) (past : List Split) (n : ℕ) (w : EditorState) (h : 
       still on = rw on refl
 
   leads-type : (c : ℕ) → Leads text past n (type_char c w)
-  leads-type c = elim (cases_Bool (is_shown c)) [ inl here ↦ rw here (leads-typed _) | inr not_here ↦ rw not_here leads-none ]
+  leads-type c = elim (cases_Bool (comes_in w.limits.multiline c)) [ inl here ↦ rw here (leads-typed _) | inr not_here ↦ rw not_here leads-none ]
 
   leads-erase : (piece : List ℕ) (target : Target) → Leads text past n (erase_cut piece target w)
   leads-erase [] target = leads-none
@@ -219,6 +225,8 @@ leads-acted text past n w h Undo f = absurd f
 leads-acted text past n w h Redo f = absurd f
 leads-acted text past n w h Older f = absurd f
 leads-acted text past n w h Newer f = absurd f
+leads-acted text past n w h RowUp f = absurd f
+leads-acted text past n w h RowDown f = absurd f
 leads-acted text past n w h Search f = absurd f
 leads-acted text past n w h SearchForward f = absurd f
 leads-acted text past n w h (CaseWord case) f = leads-case text past n w h case (cut_text (Forward WordEnd) w.line)

@@ -21,7 +21,7 @@ use Rattle.line_editor.specs.Bounds.{cased_more, size}
 use Rattle.line_editor.specs.Cases.{cased, recased}
 use Rattle.line_editor.specs.Edits.{cut_text, first_end, first_start, from_to, has_two_words, is_beside_blank, last_word, line_with, second_end, second_start, without_blanks, words_swapped, words_transposed}
 use Rattle.line_editor.specs.Places.{target_place}
-use Rattle.line_editor.specs.Shown.{AreShown}
+use Rattle.line_editor.specs.Shown.{AreIn, AreRows}
 use Rattle.line_editor.specs.Splits.{Split, bytes_before, line_text, split_at}
 use Rattle.line_editor.specs.States.{EditorState, case_cut, changed, erase_blanks, is_empty, last_word_of, next_word, taken, taken_to, transpose_words, word_taken_by}
 use Rattle.line_editor.specs.Words.{unblanked}
@@ -93,14 +93,14 @@ between p q e le =
 
 module _ (limits : Limits) where
   -- A text in place of a part of a line.
-  held-between : (p q : Split) (old new : List ℕ) → IsFrom p q old → IsHeld limits p → AreShown new → size new - size old ≤ limits.bytes - size (line_text p)
+  held-between : (p q : Split) (old new : List ℕ) → IsFrom p q old → IsHeld limits p → AreIn limits.multiline new → size new - size old ≤ limits.bytes - size (line_text p)
       → IsHeld limits (line_with p new q)
   held-between p q old new from h k few =
       let front = reverse p.before in
       let parts : line_text p ≡ front ++ (old ++ q.after) = ap (λ t. front ++ t) from.after in
       let all = held-same limits (front ++ (old ++ q.after)) (line_text p) (sym parts) h in
       held-same limits (line_text (line_with p new q)) (front ++ (new ++ q.after)) (text_of-joined p new q) (
-        shown-append front (new ++ q.after) (shown-front front (old ++ q.after) all.0) (shown-append new q.after k (shown-back old q.after (shown-back front (old ++ q.after) all.0))),
+        shown-append limits.multiline front (new ++ q.after) (shown-front limits.multiline front (old ++ q.after) all.0) (shown-append limits.multiline new q.after k (shown-back limits.multiline old q.after (shown-back limits.multiline front (old ++ q.after) all.0))),
         omega (arith, few, h.1, ap size parts, size-append front (old ++ q.after), size-append old q.after, size-append front (new ++ q.after), size-append new q.after),
       )
 
@@ -111,7 +111,7 @@ module _ (limits : Limits) where
       let q = target_place (Forward WordEnd) d in
       let ends = ends-IsFrom (Forward WordEnd) d in
       let from : IsFrom d q word = subst (IsFrom d q) (sym (from_to-IsFrom d q ends.0 ends.1)) ends.1 in
-      held-between d q word (cased case word) from h (cased-shown case word (cut-shown limits (Forward WordEnd) d h)) few
+      held-between d q word (cased case word) from h (cased-shown limits.multiline case word (cut-shown limits (Forward WordEnd) d h)) few
 
   module _ (d : Split) (h : IsHeld limits d) (two : has_two_words d ≡ true) where
     held-exchanged : IsHeld limits (words_transposed d)
@@ -136,11 +136,11 @@ module _ (limits : Limits) where
         let is_z : IsFrom e1 b2 z = subst (IsFrom e1 b2) (sym (from_to-IsFrom e1 b2 gap.0 gap.1)) gap.1 in
         let whole : IsFrom b1 e2 ((x ++ z) ++ y) = IsFrom-both b1 b2 e2 (x ++ z) y (IsFrom-both b1 e1 b2 x z is_x is_z) is_y in
         let all = held-same limits (line_text b1) (line_text d) (start1 ∙ start2 ∙ text2) h in
-        let old : AreShown ((x ++ z) ++ y) =
-        shown-front ((x ++ z) ++ y) e2.after (shown-back (reverse b1.before) (((x ++ z) ++ y) ++ e2.after) (subst AreShown (ap (λ t. reverse b1.before ++ t) whole.after) all.0)) in
-        let left = shown-front (x ++ z) y old in
+        let old : AreIn limits.multiline ((x ++ z) ++ y) =
+        shown-front limits.multiline ((x ++ z) ++ y) e2.after (shown-back limits.multiline (reverse b1.before) (((x ++ z) ++ y) ++ e2.after) (subst (AreIn limits.multiline) (ap (λ t. reverse b1.before ++ t) whole.after) all.0)) in
+        let left = shown-front limits.multiline (x ++ z) y old in
         held-between b1 e2 ((x ++ z) ++ y) (y ++ (z ++ x)) whole all
-        (shown-append y (z ++ x) (shown-back (x ++ z) y old) (shown-append z x (shown-back x z left) (shown-front x z left)))
+        (shown-append limits.multiline y (z ++ x) (shown-back limits.multiline (x ++ z) y old) (shown-append limits.multiline z x (shown-back limits.multiline x z left) (shown-front limits.multiline x z left)))
         (omega (arith, size-append (x ++ z) y, size-append x z, size-append y (z ++ x), size-append z x))
 
   pub held-words : (d : Split) → IsHeld limits d → has_two_words d ≡ true → IsHeld limits (words_transposed d)
@@ -163,24 +163,27 @@ module _ (limits : Limits) where
 
 -- ---- the last word of a line
 
-reverse-shown : (text : List ℕ) → AreShown text → AreShown (reverse text)
-reverse-shown [] h = h
-reverse-shown (c ∷ text) h =
-    let parts = and_parts _ _ h in
-    subst AreShown (sym (reverse-append (c ∷ []) text)) (shown-append (reverse text) (c ∷ []) (reverse-shown text parts.1) (and_from _ _ parts.0 refl))
-
-unblanked-shown : (text : List ℕ) → AreShown text → AreShown (unblanked text)
-unblanked-shown text h =
-    let rest = unblanked-rest text in
-    shown-back rest.0 (unblanked text) (subst AreShown rest.1 h)
-
 module _ (limits : Limits) where
-  last_word-shown : (d : Split) → IsHeld limits d → AreShown (last_word d)
+  abbrev Are : List ℕ → Type 0
+  Are text = AreIn limits.multiline text
+
+  reverse-shown : (text : List ℕ) → Are text → Are (reverse text)
+  reverse-shown [] h = h
+  reverse-shown (c ∷ text) h =
+      let parts = and_parts _ _ h in
+      subst Are (sym (reverse-append (c ∷ []) text)) (shown-append limits.multiline (reverse text) (c ∷ []) (reverse-shown text parts.1) (and_from _ _ parts.0 refl))
+
+  unblanked-shown : (text : List ℕ) → Are text → Are (unblanked text)
+  unblanked-shown text h =
+      let rest = unblanked-rest text in
+      shown-back limits.multiline rest.0 (unblanked text) (subst Are rest.1 h)
+
+  last_word-shown : (d : Split) → IsHeld limits d → Are (last_word d)
   last_word-shown d h =
       let cut = cut_text (Back Blank) d in
       reverse-shown (unblanked (reverse cut)) (unblanked-shown (reverse cut) (reverse-shown cut (cut-shown limits (Back Blank) d h)))
 
-  pub word-shown : (lines : List Split) (at : ℕ) → AllByRecursion (IsKept limits) lines → AreShown (last_word_of (slice_get lines at))
+  pub word-shown : (lines : List Split) (at : ℕ) → AllByRecursion (IsKept limits) lines → Are (last_word_of (slice_get lines at))
   word-shown [] at h = refl
   word-shown (d ∷ lines) zero h = last_word-shown d h.0.0
   word-shown (d ∷ lines) (suc at) h = word-shown lines at h.1
@@ -236,12 +239,12 @@ module _ (text : List ℕ) (d : Split) (u : IsUtf8 text) (from_first to_first fr
         ∙ ap (λ t. from_to (second_start d) (second_end d) ++ (t ++ chars (slice_range text from_first to_first))) two
         ∙ ap (λ t. from_to (second_start d) (second_end d) ++ (from_to (first_end d) (second_start d) ++ t)) three
 
-    pub swapped-shown : AreShown (chars text) → AreShown (chars new)
+    pub swapped-shown : AreRows (chars text) → AreRows (chars new)
     swapped-shown h =
-        let piece = λ (i j : ℕ) (p : IsCharBoundary text i) (q : IsCharBoundary text j) (le : i ≤ j). shown-part text u h i j p q le (slice_range text i j) refl in
-        subst AreShown (sym parts) (shown-append (chars (slice_range text from_second to_second)) (chars (slice_range text to_first from_second) ++ chars (slice_range text from_first to_first))
+        let piece = λ (i j : ℕ) (p : IsCharBoundary text i) (q : IsCharBoundary text j) (le : i ≤ j). shown-part true text u h i j p q le (slice_range text i j) refl in
+        subst AreRows (sym parts) (shown-append true (chars (slice_range text from_second to_second)) (chars (slice_range text to_first from_second) ++ chars (slice_range text from_first to_first))
         (piece from_second to_second bx by second)
-        (shown-append (chars (slice_range text to_first from_second)) (chars (slice_range text from_first to_first)) (piece to_first from_second bb bx gap) (piece from_first to_first ba bb first)))
+        (shown-append true (chars (slice_range text to_first from_second)) (chars (slice_range text from_first to_first)) (piece to_first from_second bb bx gap) (piece from_first to_first ba bb first)))
 
 module _ (w : EditorState) (d : Split) (same : w.line ≡ d) where
   pub words_none : has_two_words d ≡ false → w ≡ transpose_words w

@@ -1,17 +1,18 @@
--- What is true of an editor, whatever was done to it.
+-- Bounds that an editor keeps, whatever was done to it.
 use Rattle.std.specs.Prelude.{◌≡◌, ⊤, ℕ, ◌+◌, ◌<◌, ◌≤◌, ◌==◌, ◌||◌, Bool, false, List, [], ◌∷◌, length, map}
 use Rattle.std.specs.List.{AllByRecursion}
 use Rattle.line_editor.specs.declared.limits.Limits.{Limits}
 use Rattle.line_editor.specs.Bounds.{is_too_long, size}
 use Rattle.line_editor.specs.History.{history_of, saved}
-use Rattle.line_editor.specs.Shown.{AreShown}
+use Rattle.line_editor.specs.Shown.{AreIn}
 use Rattle.line_editor.specs.Splits.{Split, line_text}
 use Rattle.line_editor.specs.States.{DraftState, EditorState, LeftLine, fresh}
 use Rattle.line_editor.specs.Tasks.{Task, done, task_more}
 
--- A line is held if each of its characters is shown, and it has no more bytes than the limit.
+-- A line is held if each of its characters comes into a line, and it has no more bytes than the limit. So it has no control
+-- character but line feeds, and those only if the limits let lines have several rows.
 abbrev pub IsHeld : Limits → Split → Type 0
-IsHeld limits d = AreShown (line_text d) × (size (line_text d) ≤ limits.bytes)
+IsHeld limits d = AreIn limits.multiline (line_text d) × (size (line_text d) ≤ limits.bytes)
 
 -- A line of the history is held, isn't empty, and has its cursor at its end.
 abbrev pub IsKept : Limits → Split → Type 0
@@ -45,7 +46,7 @@ pub record IsBounded (w : EditorState) : Type 0 where
   pub past : AllByRecursion (IsHeld w.limits) w.past
   pub undone : AllByRecursion (IsHeld w.limits) w.undone
   pub history : AllByRecursion (IsKept w.limits) w.history
-  pub kills : AllByRecursion AreShown w.kills
+  pub kills : AllByRecursion (AreIn w.limits.multiline) w.kills
   pub pattern : IsHeld w.limits w.search.pattern
   pub began : IsHeld w.limits w.search.line
   pub lines : length w.history ≤ w.limits.lines
@@ -60,7 +61,7 @@ abbrev pub all_done : List Task → EditorState → EditorState
 all_done [] w = w
 all_done (task ∷ tasks) w = all_done tasks (done task w)
 
--- What each task in turn writes has room in the line.
+-- Each task in turn has room in the line for what it writes.
 abbrev pub AreRoomy : List Task → EditorState → Type 0
 AreRoomy [] w = ⊤
 AreRoomy (task ∷ tasks) w = (is_too_long (task_more task w) w ≡ false) × AreRoomy tasks (done task w)
@@ -71,4 +72,4 @@ StaysBounded limits tasks = AreRoomy tasks (fresh limits) → IsBounded (all_don
 
 -- The history of a bounded editor, saved as a text and loaded again, is the same history.
 abbrev pub LoadsSaved : EditorState → Type 0
-LoadsSaved w = IsBounded w → history_of w.limits (saved w.history) ≡ w.history
+LoadsSaved w = IsBounded w → history_of w.limits (saved w.limits.multiline w.history) ≡ w.history

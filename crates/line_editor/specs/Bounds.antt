@@ -12,7 +12,7 @@ use Rattle.line_editor.specs.declared.places.Target.TheVariants.{Forward}
 use Rattle.line_editor.specs.Cases.{cased}
 use Rattle.line_editor.specs.Edits.{cut_text}
 use Rattle.line_editor.specs.Kills.{kill_at}
-use Rattle.line_editor.specs.Shown.{shown_part}
+use Rattle.line_editor.specs.Shown.{part_in}
 use Rattle.line_editor.specs.Splits.{line_text}
 use Rattle.line_editor.specs.States.{EditorState, after, before_taken, before_yank, next_word, next_yank, run_actions, taken, yanked}
 
@@ -42,11 +42,11 @@ taken_more (Some before) w = size (next_word w) - size (taken w)
 abbrev pub cased_more : Case → List ℕ → ℕ
 cased_more case text = size (cased case text) - size text
 
--- How many more bytes the line has after an action that writes, or 0. A typed character has none if it isn't shown. A
+-- How many more bytes the line has after an action that writes, or 0. A typed character has none if it doesn't come in. A
 -- yank has those of its kill, and a turn of the ring what the next kill has more. A word that takes another one's place
 -- has what it has more.
 abbrev pub more_by : Action → EditorState → ℕ
-more_by (Insert c) w = size (shown_part (c ∷ []))
+more_by (Insert c) w = size (part_in w.limits.multiline (c ∷ []))
 more_by Yank w = size (yanked w)
 more_by YankPop w = popped_more (before_yank w) w
 more_by (CaseWord case) w = cased_more case (cut_text (Forward WordEnd) w.line)
@@ -62,7 +62,7 @@ abbrev pub line_fault_kind : EditFault → ErrorKind
 line_fault_kind Memory = OutOfMemory
 line_fault_kind TooLong = InvalidInput
 
--- What each action in turn writes has room in the line.
+-- Each action in turn has room in the line for what it writes.
 abbrev pub AreAllowed : List Action → EditorState → Type 0
 AreAllowed [] w = ⊤
 AreAllowed (a ∷ actions) w = (is_too_long (more_by a w) w ≡ false) × AreAllowed actions (after a w)

@@ -1,19 +1,34 @@
 -- Laws: what edits keep.
-use Rattle.std.specs.Prelude.{◌≡◌, ◌≤◌, ◌<◌, ◌+◌, ◌-◌, ℕ, Some, slice_get, zero, suc, ⊤, Bool, MatchOption, true, false, List, [], ◌∷◌, ◌++◌, length, reverse}
+use Rattle.std.specs.Prelude.{◌≡◌, ◌≤◌, ◌<◌, ◌+◌, ◌-◌, ℕ, Some, slice_get, zero, suc, ⊤, Bool, MatchOption, true, false, List, [], ◌∷◌, ◌++◌, ◌==◌, ◌||◌, length, reverse}
 use Rattle.std.specs.List.{AllByRecursion}
 use Rattle.line_editor.specs.declared.actions.Action.{Action}
-use Rattle.line_editor.specs.declared.actions.Action.TheVariants.{Newer, Older, Redo, Search, SearchForward, Undo}
+use Rattle.line_editor.specs.declared.actions.Action.TheVariants.{Newer, Older, Redo, RowDown, RowUp, Search, SearchForward, Undo}
 use Rattle.line_editor.specs.declared.last.Last.TheVariants.{Other}
 use Rattle.line_editor.specs.declared.places.Target.{Target}
 use Rattle.line_editor.specs.Splits.{Split, line_text}
 use Rattle.line_editor.specs.Edits.{cut_text, reach_end, erased, inserted, start_of}
 use Rattle.line_editor.specs.Places.{is_between, target_place}
+use Rattle.line_editor.specs.Rows.{row_place}
 use Rattle.line_editor.specs.Seeking.{contains, first_number, is_wanted, last_number}
 use Rattle.line_editor.specs.States.{EditorState, after, run_actions}
 
 -- A move keeps the text.
 abbrev pub KeepsText : Target → Split → Type 0
 KeepsText target d = line_text (target_place target d) ≡ line_text d
+
+-- Whether a text has a line feed.
+abbrev pub has_feed : List ℕ → Bool
+has_feed [] = false
+has_feed (c ∷ text) = c == 10 || has_feed text
+
+-- The part of a line on the side of the row above, or of the row below.
+abbrev pub side : Bool → Split → List ℕ
+side true d = d.before
+side false d = d.after
+
+-- Going into the row above or below keeps the text. There is such a row exactly if a line feed is on that side.
+abbrev pub ChangesRow : Bool → Split → Type 0
+ChangesRow up d = MatchOption (row_place up d) (has_feed (side up d) ≡ false) (λ e. (has_feed (side up d) ≡ true) × (line_text e ≡ line_text d))
 
 -- An erasure takes one piece out of the text, and the rest of the text stays.
 pub record CutsOut (target : Target) (d : Split) : Type 0 where
@@ -67,6 +82,8 @@ IsOfLine Undo = ⊥
 IsOfLine Redo = ⊥
 IsOfLine Older = ⊥
 IsOfLine Newer = ⊥
+IsOfLine RowUp = ⊥
+IsOfLine RowDown = ⊥
 IsOfLine Search = ⊥
 IsOfLine SearchForward = ⊥
 IsOfLine action = ⊤

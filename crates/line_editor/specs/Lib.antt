@@ -6,6 +6,7 @@ pub mod Recent
 pub mod Kills
 pub mod Shown
 pub mod Cases
+pub mod Rows
 pub mod States
 pub mod Bounds
 pub mod Seeking

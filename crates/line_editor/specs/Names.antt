@@ -7,7 +7,7 @@ use Rattle.std.specs.Str.{chars}
 use Rattle.crossterm_flags.specs.Values.{same}
 use Rattle.crossterm_flags.specs.Variants.{value_in}
 use Rattle.line_editor.specs.declared.actions.Action.{Action}
-use Rattle.line_editor.specs.declared.actions.Action.TheVariants.{Insert, Go, Erase, Kill, Yank, YankPop, Transpose, Undo, Redo, Older, Newer, Search, SearchForward, CaseWord, TransposeWords, EraseBlanks, LastWord}
+use Rattle.line_editor.specs.declared.actions.Action.TheVariants.{Insert, Go, Erase, Kill, Yank, YankPop, Transpose, Undo, Redo, Older, Newer, RowUp, RowDown, Search, SearchForward, CaseWord, TransposeWords, EraseBlanks, LastWord}
 use Rattle.line_editor.specs.declared.actions.Case.TheVariants.{Upper, Lower, Title}
 use Rattle.line_editor.specs.declared.places.Stop.TheVariants.{Cluster, WordStart, WordEnd, Blank, Edge}
 use Rattle.line_editor.specs.declared.places.Target.{Target}
@@ -28,9 +28,9 @@ target_name (Forward Blank) = codes "blank-forward"
 target_name (Back Edge) = codes "line-start"
 target_name (Forward Edge) = codes "line-end"
 
--- The name of a character: `space` for a blank, otherwise the character itself.
+-- The name of a character: `space` for a blank, `newline` for a line feed, otherwise the character itself.
 abbrev pub key_char_name : ℕ → List ℕ
-key_char_name c = if c == 32 then codes "space" else encode_utf8 c
+key_char_name c = if c == 32 then codes "space" else (if c == 10 then codes "newline" else encode_utf8 c)
 
 -- The name of an action: a verb, and its target or character, as `kill-line-end`.
 abbrev pub action_name : Action → List ℕ
@@ -45,6 +45,8 @@ action_name Undo = codes "undo"
 action_name Redo = codes "redo"
 action_name Older = codes "older"
 action_name Newer = codes "newer"
+action_name RowUp = codes "row-up"
+action_name RowDown = codes "row-down"
 action_name Search = codes "search"
 action_name SearchForward = codes "search-forward"
 action_name (CaseWord Upper) = codes "upcase-word"
@@ -68,7 +70,7 @@ target_rows =
 abbrev pub action_rows : List (List ℕ × Action)
 action_rows =
     (codes "yank", Yank) ∷ (codes "yank-pop", YankPop) ∷ (codes "transpose", Transpose) ∷ (codes "undo", Undo) ∷ (codes "redo", Redo) ∷ (codes "older", Older) ∷
-    (codes "newer", Newer) ∷ (codes "search", Search) ∷ (codes "search-forward", SearchForward) ∷
+    (codes "newer", Newer) ∷ (codes "row-up", RowUp) ∷ (codes "row-down", RowDown) ∷ (codes "search", Search) ∷ (codes "search-forward", SearchForward) ∷
     (codes "upcase-word", CaseWord Upper) ∷ (codes "downcase-word", CaseWord Lower) ∷ (codes "capitalize-word", CaseWord Title) ∷
     (codes "transpose-words", TransposeWords) ∷ (codes "erase-blanks", EraseBlanks) ∷ (codes "last-word", LastWord) ∷ []
 
@@ -77,9 +79,9 @@ abbrev pub one_char : List ℕ → Option ℕ
 one_char (c ∷ []) = Some c
 one_char text = None
 
--- The character that a text names: its only one, or a blank for `space`. Otherwise `None`.
+-- The character that a text names: its only one, a blank for `space`, or a line feed for `newline`. Otherwise `None`.
 abbrev pub char_named : List ℕ → Option ℕ
-char_named text = option_or (one_char (chars text)) (if same (codes "space") text then Some 32 else None)
+char_named text = option_or (one_char (chars text)) (if same (codes "space") text then Some 32 else (if same (codes "newline") text then Some 10 else None))
 
 -- The action that a verb and what follows it name, or `None`.
 abbrev pub verb_named : List ℕ → List ℕ → Option Action

@@ -7,7 +7,7 @@ use Rattle.line_editor.specs.declared.places.Stop.TheVariants.{Cluster}
 use Rattle.line_editor.specs.declared.places.Target.TheVariants.{Back}
 use Rattle.line_editor.specs.Bounds.{size}
 use Rattle.line_editor.specs.Edits.{empty_line, erased, inserted}
-use Rattle.line_editor.specs.Shown.{is_shown}
+use Rattle.line_editor.specs.Shown.{comes_in}
 use Rattle.line_editor.specs.Splits.{Split, line_text}
 use Rattle.line_editor.specs.States.{EditorState, behind_front, brought_to, gone_to, is_empty, rung}
 
@@ -28,7 +28,7 @@ abbrev pub has_found : Last → Bool
 has_found (Seeking s) = s.found
 has_found last = false
 
--- What a search that goes on looks for.
+-- The text that a search looks for, if one goes on.
 abbrev pub pattern_of : EditorState → Option (List ℕ)
 pattern_of w = if is_seeking w.last then Some (line_text w.search.pattern) else None
 
@@ -103,9 +103,9 @@ abbrev pub sought_with : Split → EditorState → EditorState
 sought_with pattern w =
     record (sought_on (is_ahead w.last) (found_here (line_text pattern) (is_ahead w.last) w) w) { search = record w.search { pattern = pattern } }
 
--- Whether a character comes into a pattern: it is shown, and a line could have so many bytes.
+-- Whether a character comes into a pattern: it comes into a line, and a line could have so many bytes.
 abbrev pub is_more : ℕ → EditorState → Bool
-is_more c w = is_shown c && nat_le (size (line_text w.search.pattern) + size (c ∷ [])) w.limits.bytes
+is_more c w = comes_in w.limits.multiline c && nat_le (size (line_text w.search.pattern) + size (c ∷ [])) w.limits.bytes
 
 -- The editor after a character is typed into the pattern. One that doesn't come in changes nothing.
 abbrev pub sought_more : ℕ → EditorState → EditorState

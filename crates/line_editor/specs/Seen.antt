@@ -1,11 +1,11 @@
--- What holds for the part of a line that is seen in a row.
+-- Laws of the part of a line that is seen in a row.
 use Rattle.std.specs.Prelude.{◌≡◌, ℕ, ◌+◌, ◌<◌, ◌≤◌, true, List, ◌++◌, length, reverse}
 use Rattle.line_editor.specs.Splits.{Split, line_text}
 use Rattle.line_editor.specs.Edits.{IsSettled}
 use Rattle.line_editor.specs.Places.{is_between}
 use Rattle.line_editor.specs.Views.{column, width_of, seen_text}
 
--- What is seen of a line fits into a row of `room` columns.
+-- The part of a line that is seen fits into a row of `room` columns.
 pub record IsSeen (room : ℕ) (d : Split) : Type 0 where
   -- The cursor is in the row.
   pub cursor : column room d < room
@@ -31,7 +31,7 @@ pub record IsSeen (room : ℕ) (d : Split) : Type 0 where
 abbrev pub IsSeenIn : ℕ → Split → Type 0
 IsSeenIn room d = 0 < room → IsSeen room d
 
--- What is seen is a piece of the line's text that begins and ends between clusters.
+-- The part that is seen is a piece of the line's text that begins and ends between clusters.
 pub record IsInClusters (room : ℕ) (d : Split) : Type 0 where
   pub front : List ℕ
   pub back : List ℕ

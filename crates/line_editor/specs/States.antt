@@ -18,7 +18,8 @@ use Rattle.line_editor.specs.Edits.{has_two_words, is_beside_blank, last_word, w
 use Rattle.line_editor.specs.Cases.{recased}
 use Rattle.line_editor.specs.Kills.{kill_at, kills_with, next_place}
 use Rattle.line_editor.specs.Places.{target_place}
-use Rattle.line_editor.specs.Shown.{is_shown, pasted_part}
+use Rattle.line_editor.specs.Rows.{row_place}
+use Rattle.line_editor.specs.Shown.{comes_in, pasted_part}
 
 -- An incremental search: what it looks for, and the line from which it began with its place in the history.
 pub record LineSearch : Type 0 where
@@ -66,7 +67,7 @@ pub record EditorState : Type 0 where
   pub search : LineSearch
   -- Whether a character was typed last, which is undone with the next one.
   pub typing : Bool
-  -- What the last action was, as far as the next one goes on with it.
+  -- The last action, as far as the next one goes on with it.
   pub last : Last
 
 -- A fresh editor has an empty line, and nothing came before it.
@@ -106,18 +107,18 @@ moved d w = record w { line = d; typing = false }
 
 -- ---- what is written
 
--- The editor after a character is typed, which does nothing if the character isn't shown.
+-- The editor after a character is typed, which does nothing if the character doesn't come into a line.
 abbrev pub type_char : ℕ → EditorState → EditorState
-type_char c w = if is_shown c then after_typing (inserted (c ∷ []) w.line) w else w
+type_char c w = if comes_in w.limits.multiline c then after_typing (inserted (c ∷ []) w.line) w else w
 
 -- The editor after a text is written at the cursor. An empty text does nothing.
 abbrev pub write : List ℕ → EditorState → EditorState
 write [] w = w
 write (c ∷ text) w = changed (inserted (c ∷ text) w.line) w
 
--- The editor after a paste: its shown characters are written, with a blank for each run of line ends and tabs.
+-- The editor after a paste: what of it comes into a line is written.
 abbrev pub pasted_into : List ℕ → EditorState → EditorState
-pasted_into text w = record (write (pasted_part text) w) { last = Other }
+pasted_into text w = record (write (pasted_part w.limits.multiline text) w) { last = Other }
 
 -- ---- what is erased
 
@@ -217,6 +218,15 @@ abbrev pub newer_from : ℕ → EditorState → EditorState
 newer_from zero w = w
 newer_from (suc back) w = gone_to back (line_at back w) w
 
+-- The place in the row above or below. `None` if there is no such row, or if lines have one row.
+abbrev pub row_beside : Bool → EditorState → Option Split
+row_beside up w = if w.limits.multiline then row_place up w.line else None
+
+-- The editor with its cursor at a place in another row, or another editor if there is no such row.
+abbrev pub by_row : Option Split → EditorState → EditorState → EditorState
+by_row None other w = other
+by_row (Some d) other w = moved d w
+
 -- The rest of a text that begins with another one, or `None` if it doesn't.
 abbrev pub behind_front : List ℕ → List ℕ → Option (List ℕ)
 behind_front [] text = Some text
@@ -231,12 +241,12 @@ yanked w = kill_at w.kills w.yank_at
 abbrev pub next_yank : EditorState → ℕ
 next_yank w = next_place w.yank_at (length w.kills)
 
--- What is before a text that was yanked last, nearest first, if the text is before the cursor. `None` otherwise.
+-- The characters before a text that was yanked last, nearest first, if the text is before the cursor. `None` otherwise.
 abbrev pub before_yanked : Last → List ℕ → List ℕ → Option (List ℕ)
 before_yanked Yanked text before = behind_front (reverse text) before
 before_yanked last text before = None
 
--- What is before the yanked text in the line.
+-- The characters before the yanked text in the line.
 abbrev pub before_yank : EditorState → Option (List ℕ)
 before_yank w = before_yanked w.last (yanked w) w.line.before
 
@@ -392,7 +402,7 @@ next_taken w = next_taken_by w.last w
 abbrev pub next_word : EditorState → List ℕ
 next_word w = word_at (next_taken w) w
 
--- What is before the word that was taken last, nearest first, if the word is before the cursor. `None` otherwise.
+-- The characters before the word that was taken last, nearest first, if the word is before the cursor. Otherwise `None`.
 abbrev pub before_taken : EditorState → Option (List ℕ)
 before_taken w = behind_front (reverse (taken w)) w.line.before
 
@@ -406,7 +416,7 @@ taken_to (Some before) w =
 
 -- ---- actions
 
--- What an action makes of the editor, but for what it is to the next one.
+-- The editor after an action, but for what this is to the next one.
 abbrev pub acted : Action → EditorState → EditorState
 acted (does.Insert c) w = type_char c w
 acted (does.Go target) w = moved (target_place target w.line) w
@@ -419,6 +429,8 @@ acted does.Undo w = undo_to w.past w
 acted does.Redo w = redo_to w.undone w
 acted does.Older w = gone_to (w.back + 1) (line_at (w.back + 1) w) w
 acted does.Newer w = newer_from w.back w
+acted does.RowUp w = by_row (row_beside true w) (gone_to (w.back + 1) (line_at (w.back + 1) w) w) w
+acted does.RowDown w = by_row (row_beside false w) (newer_from w.back w) w
 acted does.Search w = searched_to (found w) w
 acted does.SearchForward w = searched_forward (sought w) w
 acted (does.CaseWord case) w = case_cut case (cut_text (Forward WordEnd) w.line) w
@@ -431,12 +443,12 @@ abbrev pub rung : Last → Last
 rung Killed = Killed
 rung last = Other
 
--- What a turn of the ring is to the next action: a yank, if there was one.
+-- The last action after a turn of the ring: a yank, if there was one.
 abbrev pub last_popped : Option (List ℕ) → Last → Last
 last_popped None last = rung last
 last_popped (Some before) last = Yanked
 
--- What an action is to the next one. A kill that cuts nothing is no kill, and a yank of nothing no yank.
+-- The last action after an action. A kill that cuts nothing is no kill, and a yank of nothing no yank.
 abbrev pub last_after : Action → EditorState → Last
 last_after does.Search w = if is_empty (sought w) then Walked else Other
 last_after does.SearchForward w = if is_empty (sought w) then Walked else Other

@@ -1,4 +1,4 @@
--- What the calls of an editor do to it.
+-- The tasks of an editor, each of which a call does.
 use Rattle.std.specs.Prelude.{ℕ, Bool, List}
 use Rattle.line_editor.specs.declared.actions.Action.{Action}
 use Rattle.line_editor.specs.Bounds.{more_by, size}
@@ -7,7 +7,7 @@ use Rattle.line_editor.specs.Seeking.{given_up, sought_less, sought_more, sought
 use Rattle.line_editor.specs.Shown.{pasted_part}
 use Rattle.line_editor.specs.States.{EditorState, accepted, after, broken_off, dropped, pasted_into}
 
--- What a call does to an editor.
+-- A task, which a call does to an editor.
 pub data Task : Type 0 where
   -- An action is done.
   Acts : Action → Task
@@ -27,7 +27,7 @@ pub data Task : Type 0 where
   SeeksLess : Task
   -- It is given up, and the line from which it began comes back.
   GivesUp : Task
-  -- What it found is taken.
+  -- The line that it found is taken.
   Ends : Task
   -- The window is cleared, and the line goes on.
   Clears : Task
@@ -55,5 +55,5 @@ done Nothing w = w
 -- How many more bytes the line has after a task that writes, or 0. A paste has those of what of it comes into the line.
 abbrev pub task_more : Task → EditorState → ℕ
 task_more (Acts action) w = more_by action w
-task_more (Pastes text) w = size (pasted_part text)
+task_more (Pastes text) w = size (pasted_part w.limits.multiline text)
 task_more task w = 0

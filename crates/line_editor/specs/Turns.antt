@@ -1,5 +1,5 @@
--- What an editor does at events, one after another.
-use Rattle.std.specs.Prelude.{◌≡◌, ⊤, ℕ, true, false, List, [], ◌∷◌, ◌++◌, Bool, Option, Some, None, if◌then◌else◌, not, string_bytes}
+-- Events, and what an editor does at them, one after another.
+use Rattle.std.specs.Prelude.{◌≡◌, ◌==◌, ⊤, ℕ, true, false, List, [], ◌∷◌, ◌++◌, Bool, Option, Some, None, if◌then◌else◌, not, string_bytes}
 use Rattle.std.specs.Str.{chars}
 use Rattle.crossterm_types.specs.Seen.{Seen}
 use Rattle.crossterm_types.specs.Seen as seen
@@ -38,10 +38,10 @@ plain_task asks.SearchAhead w = Seeks true
 plain_task asks.Abort w = GivesUp
 plain_task asks.EndSearch w = Ends
 
--- What the key of a command is to a search, or `None` if it ends it. Characters and Backspace are for what it looks for,
--- and an interrupt gives it up.
+-- The key of a command as it is to a search, or `None` if it ends that. Characters and Backspace are for what it looks
+-- for, and an interrupt gives it up. A line feed ends it.
 abbrev pub search_key : KeyCommand → Option SearchKey
-search_key (asks.Act (Insert c)) = Some (More c)
+search_key (asks.Act (Insert c)) = if c == 10 then None else Some (More c)
 search_key (asks.Act (Erase (Back Cluster))) = Some Less
 search_key asks.Interrupt = Some GiveUp
 search_key command = None
@@ -87,7 +87,7 @@ pub data Answer : Type 0 where
   -- The empty line was closed.
   Closed : Answer
 
--- What contracts see of an outcome.
+-- An outcome, as contracts see it.
 abbrev pub seen_outcome : {A : Type 0} → Outcome A → Answer
 seen_outcome outcome.Going = Going
 seen_outcome outcome.Clear = Clear
@@ -144,7 +144,7 @@ abbrev pub lines_of_events : List Seen → EditorState → List (List ℕ)
 lines_of_events [] w = []
 lines_of_events (event ∷ events) w = lines_in (answer (task_of event w) w) ++ lines_of_events events (turned event w)
 
--- What each event in turn writes has room in the line.
+-- Each event in turn has room in the line for what it writes.
 abbrev pub AreTaken : List Seen → EditorState → Type 0
 AreTaken [] w = ⊤
 AreTaken (event ∷ events) w = (is_too_long (event_more event w) w ≡ false) × AreTaken events (turned event w)

@@ -1,4 +1,4 @@
--- What part of a line is seen in one row, and in which column the cursor is.
+-- The part of a line that is seen in one row, and the cursor's column.
 use Rattle.std.specs.Prelude.{ℕ, ◌+◌, ◌-◌, nat_le, false, List, [], ◌∷◌, if◌then◌else◌}
 use Rattle.std.specs.Prelude.{Option, Some, None}
 use Rattle.unicode_width.specs.Width.{char_width}

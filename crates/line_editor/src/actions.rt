@@ -1,4 +1,4 @@
-//! What a line editor does.
+//! The actions of a line editor.
 
 use crate::places::Target;
 
@@ -10,7 +10,8 @@ use crate::places::Target;
 /// ```
 #[derive(Clone, Copy, PartialEq, Eq, Debug)]
 pub enum Action {
-    /// Types a character at the cursor (`self-insert`). A control character, or one of more than two columns, isn't typed.
+    /// Types a character at the cursor (`self-insert`). A control character, or one of more than two columns, isn't typed; a line feed is if
+    /// `Limits::multiline` says so.
     Insert(char),
     /// Brings the cursor to a target (`backward-char`, `forward-word`, `end-of-line` and others).
     Go(Target),
@@ -35,6 +36,10 @@ pub enum Action {
     Older,
     /// Shows the next newer one, and at last the line that was left (`next-history`).
     Newer,
+    /// Brings the cursor into the row above, to its column or the row's end, and in the first row is as `Older`.
+    RowUp,
+    /// Brings it into the row below, and in the last row is as `Newer`.
+    RowDown,
     /// Shows the next older accepted line that begins with the text before the cursor and differs from the line (`history-search-backward`).
     /// If nothing is before the cursor, any line is found, with the cursor at its end, and the next search goes on so.
     Search,

@@ -10,7 +10,7 @@ use std::alloc::{AllocError, Allocator, Global};
 use std::collections::VecDeque;
 use std::marker::Model;
 
-/// What turns a line into another one: `text` in place of what is between two places, and the cursor at `at`.
+/// A change that turns a line into another one: `text` in place of what is between two places, and the cursor at `at`.
 #[derive(Drop)]
 pub(crate) struct Change<A: Allocator = Global> {
     pub(crate) from: usize,

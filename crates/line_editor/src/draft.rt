@@ -1,10 +1,11 @@
 //! A line, with the changes that lead to the lines before it and to those that were undone.
-ghost use Rattle.std.specs.Prelude.{◌≡◌, ◌≤◌, false, true, [], OnErr, OnOk};
+ghost use Rattle.std.specs.Prelude.{◌≡◌, ◌≤◌, false, true, [], MatchBool, None, OnErr, OnOk, Some};
 ghost use Rattle.std.specs.Str.{chars, IsCharBoundary};
 ghost use Rattle.line_editor.specs.Edits.{empty_line, erased, inserted, line_with, transposed};
 ghost use Rattle.line_editor.specs.Places.{target_place};
-ghost use Rattle.line_editor.specs.Shown.{AreShown};
-ghost use Rattle.line_editor.specs.Splits.{split_at};
+ghost use Rattle.line_editor.specs.Shown.{AreRows};
+ghost use Rattle.line_editor.specs.Rows.{row_place};
+ghost use Rattle.line_editor.specs.Splits.{Split, split_at};
 ghost use Rattle.line_editor.specs.States.{draft_changed, shown_as};
 ghost use Rattle.line_editor.specs.inside.Changes.{line_bytes, draft_redone, draft_typed, draft_undone};
 
@@ -80,6 +81,18 @@ impl<A: Allocator> Draft<A> {
         self.typing = false;
     }
 
+    /// Brings the cursor into the row above or below, and returns whether there is one.
+    pub(crate) fn go_row(&mut self, up: bool) -> bool
+        ensures { MatchBool result ((d : Split) × (row_place up self.old.line ≡ Some d) × (self.new ≡ record self.old { line = d; typing = false }))
+            ((row_place up self.old.line ≡ None) × (self.new ≡ self.old)) }
+    {
+        if !self.line.go_row(up) {
+            return false;
+        }
+        self.typing = false;
+        true
+    }
+
     /// Another line takes the line's place.
     pub(crate) fn change(&mut self, line: Line<A>, steps: usize) -> Result<(), AllocError>
         ensures ok { OnOk result (self.new ≡ draft_changed steps line self.old) }
@@ -112,7 +125,7 @@ impl<A: Allocator> Draft<A> {
 impl<A: Allocator + Clone> Draft<A> {
     /// Writes a text at the cursor.
     pub(crate) fn put(&mut self, text: &str, steps: usize) -> Result<(), AllocError>
-        requires { AreShown (chars text.now) }
+        requires { AreRows (chars text.now) }
         ensures ok { OnOk result (self.new ≡ draft_changed steps (inserted (chars text.now) self.old.line) self.old) }
         ensures err { OnErr result (self.new ≡ self.old) }
     {
@@ -148,7 +161,7 @@ impl<A: Allocator + Clone> Draft<A> {
         requires order { from ≤ to }
         requires from { IsCharBoundary (line_bytes self.old.line) from }
         requires to { IsCharBoundary (line_bytes self.old.line) to }
-        requires with { AreShown (chars with.now) }
+        requires with { AreRows (chars with.now) }
         ensures ok { OnOk result (self.new
             ≡ draft_changed steps (line_with (split_at (line_bytes self.old.line) from) (chars with.now) (split_at (line_bytes self.old.line) to)) self.old) }
         ensures err { OnErr result (self.new ≡ self.old) }
@@ -176,7 +189,7 @@ impl<A: Allocator + Clone> Draft<A> {
 
     /// Types a text behind what was typed just before.
     fn type_more(&mut self, text: &str) -> Result<(), AllocError>
-        requires text { AreShown (chars text.now) }
+        requires text { AreRows (chars text.now) }
         requires typing { self.old.typing ≡ true }
         ensures ok { OnOk result (self.new ≡ record self.old { line = inserted (chars text.now) self.old.line; undone = [] }) }
         ensures err { OnErr result (self.new ≡ self.old) }
@@ -190,7 +203,7 @@ impl<A: Allocator + Clone> Draft<A> {
 
     /// Types a text.
     pub(crate) fn type_text(&mut self, text: &str, steps: usize) -> Result<(), AllocError>
-        requires { AreShown (chars text.now) }
+        requires { AreRows (chars text.now) }
         ensures ok { OnOk result (self.new ≡ draft_typed steps (inserted (chars text.now) self.old.line) self.old) }
         ensures err { OnErr result (self.new ≡ self.old) }
     {

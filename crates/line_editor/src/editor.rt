@@ -10,7 +10,7 @@ ghost use Rattle.line_editor.specs.Edits.{cut_text, inserted, meeting};
 ghost use Rattle.line_editor.specs.History.{loaded, saved};
 ghost use Rattle.line_editor.specs.Kills.{kept_by, kill_text};
 ghost use Rattle.line_editor.specs.Places.{target_place};
-ghost use Rattle.line_editor.specs.Shown.{AreShown, pasted_part};
+ghost use Rattle.line_editor.specs.Shown.{AreRows, pasted_part};
 ghost use Rattle.line_editor.specs.Splits.{bytes_before, line_text};
 ghost use Rattle.line_editor.specs.inside.Changes.{line_bytes};
 ghost use Rattle.line_editor.specs.States.{IsMove, accepted, acted, after, before_yank, broken_off, dropped, erase_cut, fresh, is_ignored, kill_cut, last_after, last_popped, moved, next_yank, no_search, pasted_into, popped_to, redo_to, remembered, run_actions, transpose_at, type_char, after_typing, undo_to, write, yanked};
@@ -26,7 +26,7 @@ use crate::limits::Limits;
 use crate::lines::Line;
 use crate::places::{Stop, Target};
 use crate::recent::RecentLines;
-use crate::shown::{is_shown, pasted, pasted_len};
+use crate::shown::{comes_in, pasted, pasted_len};
 use crate::texts::{begins_with_space, is_nothing, joined};
 use std::alloc::{AllocError, Allocator, Global};
 use std::collections::VecDeque;
@@ -85,9 +85,9 @@ impl<A: Allocator> Model for Editor<A> {
     } };
 
     ghost use Rattle.std.specs.List.{AllByRecursion};
-    ghost use Rattle.line_editor.specs.Shown.{AreShown};
+    ghost use Rattle.line_editor.specs.Shown.{AreRows};
 
-    ghost invariant = { λ e. AllByRecursion AreShown (texts e.kills.items) };
+    ghost invariant = { λ e. AllByRecursion AreRows (texts e.kills.items) };
 }
 
 /// An editor with nothing written.
@@ -145,7 +145,7 @@ impl<A: Allocator> Editor<A> {
     /// The text that a yank writes.
     fn yanked(&self) -> &str
         ensures text { chars result.now ≡ yanked self.now }
-        ensures shown { AreShown (chars result.now) }
+        ensures shown { AreRows (chars result.now) }
     {
         kill_at(&self.kills, self.yank_at)
     }
@@ -187,7 +187,7 @@ impl<A: Allocator> Editor<A> {
         ensures { result ≡ is_too_long (more_by action self.now) self.now }
     {
         match action {
-            Action::Insert(c) => is_shown(c) && self.room() < c.len_utf8(),
+            Action::Insert(c) => comes_in(self.limits.multiline, c) && self.room() < c.len_utf8(),
             Action::Yank => self.room() < self.yanked().len(),
             Action::YankPop => self.room() < self.popped_more(),
             Action::CaseWord(case) => (self.room() as u128) < self.cased_more(case),
@@ -200,6 +200,8 @@ impl<A: Allocator> Editor<A> {
             | Action::Redo
             | Action::Older
             | Action::Newer
+            | Action::RowUp
+            | Action::RowDown
             | Action::Search
             | Action::SearchForward
             | Action::TransposeWords
@@ -272,7 +274,7 @@ impl<A: Allocator + Clone> Editor<A> {
 
     /// Types a text. The line isn't copied if a character was typed just before.
     fn type_text(&mut self, text: &str) -> Result<(), AllocError>
-        requires { AreShown (chars text.now) }
+        requires { AreRows (chars text.now) }
         ensures ok { OnOk result (self.new ≡ after_typing (inserted (chars text.now) self.old.line) self.old) }
         ensures err { OnErr result (self.new ≡ self.old) }
     {
@@ -285,7 +287,7 @@ impl<A: Allocator + Clone> Editor<A> {
         ensures ok { OnOk result (self.new ≡ type_char c self.old) }
         ensures err { OnErr result (self.new ≡ self.old) }
     {
-        if !is_shown(c) {
+        if !comes_in(self.limits.multiline, c) {
             return Ok(());
         }
         let mut utf8 = [0u8; 4];
@@ -314,7 +316,7 @@ impl<A: Allocator + Clone> Editor<A> {
     /// The text to which that of a kill is joined.
     fn kept(&self) -> &str
         ensures text { chars result.now ≡ kept_by self.now.last self.now.kills }
-        ensures shown { AreShown (chars result.now) }
+        ensures shown { AreRows (chars result.now) }
     {
         match self.last {
             Last::Killed => kill_at(&self.kills, 0),
@@ -329,7 +331,7 @@ impl<A: Allocator + Clone> Editor<A> {
     /// The text that a kill keeps.
     fn killed_by(&self, target: Target) -> Result<String<A>, AllocError>
         ensures text { IfOk result (λ killed. chars (string_bytes killed) ≡ kill_text target (cut_text target self.now.line) (kept_by self.now.last self.now.kills)) }
-        ensures shown { IfOk result (λ killed. AreShown (chars (string_bytes killed))) }
+        ensures shown { IfOk result (λ killed. AreRows (chars (string_bytes killed))) }
     {
         let kept = self.kept();
         let text = self.draft.line().cut(target);
@@ -437,6 +439,8 @@ impl<A: Allocator + Clone> Editor<A> {
             Action::Redo => self.redo(),
             Action::Older => self.older(),
             Action::Newer => self.newer(),
+            Action::RowUp => self.row_up(),
+            Action::RowDown => self.row_down(),
             Action::Search => self.search(),
             Action::SearchForward => self.search_forward(),
             Action::CaseWord(case) => self.case_word(case),
@@ -446,7 +450,7 @@ impl<A: Allocator + Clone> Editor<A> {
         }
     }
 
-    /// What a turn of the ring is to the next action.
+    /// The kind of last action that a turn of the ring is to the next one.
     fn last_popped(&self) -> Last
         ensures { result ≡ last_popped (before_yank self.now) self.now.last }
     {
@@ -456,7 +460,7 @@ impl<A: Allocator + Clone> Editor<A> {
         }
     }
 
-    /// What an action is to the next one.
+    /// The kind of last action that an action is to the next one.
     fn last_after(&self, action: Action) -> Last
         ensures { result ≡ last_after action self.now }
     {
@@ -536,10 +540,10 @@ impl<A: Allocator + Clone> Editor<A> {
 
     /// Writes what of a text comes into a line.
     fn write_pasted(&mut self, text: &str) -> Result<(), AllocError>
-        ensures ok { OnOk result (self.new ≡ write (pasted_part (chars text.now)) self.old) }
+        ensures ok { OnOk result (self.new ≡ write (pasted_part self.old.limits.multiline (chars text.now)) self.old) }
         ensures err { OnErr result (self.new ≡ self.old) }
     {
-        let text = pasted(self.alloc.clone()?, text)?;
+        let text = pasted(self.alloc.clone()?, self.limits.multiline, text)?;
         if is_nothing(text.as_str()) {
             return Ok(());
         }
@@ -549,8 +553,9 @@ impl<A: Allocator + Clone> Editor<A> {
 
     /// Writes a text at the cursor, as one change (`bracketed-paste-begin`).
     ///
-    /// A line has one row: each run of line feeds, carriage returns and tabs becomes one blank, and a run at the text's end is left out. Other
-    /// control characters, and characters of more than two columns, are left out.
+    /// In a line of one row each run of line feeds, carriage returns and tabs becomes one blank, and a run at the text's end is left out. In
+    /// one of several rows (`Limits::multiline`) each line end becomes a line feed and each tab a blank. Other control characters, and
+    /// characters of more than two columns, are left out.
     ///
     /// # Errors
     ///
@@ -562,11 +567,11 @@ impl<A: Allocator + Clone> Editor<A> {
     /// ```
     pub fn paste(&mut self, text: &str) -> Result<(), EditFault>
         ensures ok { OnOk result (self.new ≡ pasted_into (chars text.now) self.old) }
-        ensures room { OnOk result (is_too_long (size (pasted_part (chars text.now))) self.old ≡ false) }
+        ensures room { OnOk result (is_too_long (size (pasted_part self.old.limits.multiline (chars text.now))) self.old ≡ false) }
         ensures err { OnErr result (self.new ≡ self.old) }
-        ensures fault { IfErr result (λ fault. fault ≡ refusal_of (size (pasted_part (chars text.now))) self.old) }
+        ensures fault { IfErr result (λ fault. fault ≡ refusal_of (size (pasted_part self.old.limits.multiline (chars text.now))) self.old) }
     {
-        if self.room() < pasted_len(text) {
+        if self.room() < pasted_len(self.limits.multiline, text) {
             return Err(EditFault::TooLong);
         }
         match self.write_pasted(text) {
@@ -594,7 +599,7 @@ impl<A: Allocator + Clone> Editor<A> {
     /// The line's text. The line is remembered, and let go.
     fn accepted_text(&mut self) -> Result<String<A>, AllocError>
         ensures text { IfOk result (λ text. chars (string_bytes text) ≡ line_text self.old.line) }
-        ensures shown { IfOk result (λ text. AreShown (chars (string_bytes text))) }
+        ensures shown { IfOk result (λ text. AreRows (chars (string_bytes text))) }
         ensures ok { OnOk result (self.new ≡ accepted self.old) }
         ensures err { OnErr result (self.new ≡ self.old) }
     {
@@ -616,7 +621,7 @@ impl<A: Allocator + Clone> Editor<A> {
     /// ```
     pub fn accept(&mut self) -> Result<String<A>, EditFault>
         ensures text { IfOk result (λ text. chars (string_bytes text) ≡ line_text self.old.line) }
-        ensures shown { IfOk result (λ text. AreShown (chars (string_bytes text))) }
+        ensures shown { IfOk result (λ text. AreRows (chars (string_bytes text))) }
         ensures ok { OnOk result (self.new ≡ accepted self.old) }
         ensures err { OnErr result (self.new ≡ self.old) }
         ensures fault { IfErr result (λ fault. fault ≡ Memory) }
@@ -629,6 +634,8 @@ impl<A: Allocator + Clone> Editor<A> {
 
     /// The text of the history: the accepted lines, the oldest first, with a line feed behind each. Loading it gives the same history.
     ///
+    /// If lines may have several rows (`Limits::multiline`), a line feed within a line is `\n` in the text, and a backslash `\\`.
+    ///
     /// # Errors
     ///
     /// `Memory` if memory was refused.
@@ -638,14 +645,14 @@ impl<A: Allocator + Clone> Editor<A> {
     /// other.load_history(text.as_str())?;
     /// ```
     pub fn history_text(&self) -> Result<String<A>, EditFault>
-        ensures text { IfOk result (λ text. chars (string_bytes text) ≡ saved self.now.history) }
+        ensures text { IfOk result (λ text. chars (string_bytes text) ≡ saved self.now.limits.multiline self.now.history) }
         ensures fault { IfErr result (λ fault. fault ≡ Memory) }
     {
         let alloc = match self.alloc.clone() {
             Ok(alloc) => alloc,
             Err(_) => return Err(EditFault::Memory),
         };
-        match saved(alloc, &self.history) {
+        match saved(alloc, self.limits.multiline, &self.history) {
             Ok(text) => Ok(text),
             Err(_) => Err(EditFault::Memory),
         }
@@ -654,7 +661,8 @@ impl<A: Allocator + Clone> Editor<A> {
     /// Takes the history from a text, a line a line, the oldest first. The line stays as it is, and a search ends.
     ///
     /// Of each line the characters are taken that `paste` takes. Empty lines, and lines of more bytes than the limit, are left out. Of too
-    /// many lines the last ones are taken.
+    /// many lines the last ones are taken. If lines may have several rows (`Limits::multiline`), `\n` is read as a line feed and `\\` as a
+    /// backslash, and before any other character a backslash is one.
     ///
     /// # Errors
     ///

@@ -25,7 +25,7 @@ pub enum EditFault {
 }
 
 impl EditFault {
-    /// What a program prints of it.
+    /// The words that a program prints for it.
     fn words(&self) -> &'static str {
         match self {
             EditFault::Memory => "out of memory",

@@ -1,8 +1,8 @@
 //! A history as a text, and the history that a text holds.
-ghost use Rattle.std.specs.Prelude.{◌≡◌, ◌<◌, ◌++◌, ◌∷◌, [], IfOk, OnOk, encode_utf8_all, length};
+ghost use Rattle.std.specs.Prelude.{◌≡◌, ◌<◌, ◌++◌, ◌∷◌, [], false, List, ℕ, IfOk, OnOk, encode_utf8_all, length};
 ghost use Rattle.std.specs.Str.{chars};
 ghost use Rattle.std.specs.String.{string_bytes};
-ghost use Rattle.line_editor.specs.History.{history_of, saved, with_line};
+ghost use Rattle.line_editor.specs.History.{escaped, history_of, line_read, line_saved, saved, unescaped, with_line};
 ghost use Rattle.line_editor.specs.Shown.{pasted_part};
 ghost use Rattle.line_editor.specs.inside.Lines.{IsFirstLine};
 
@@ -11,13 +11,49 @@ use crate::lines::Line;
 use crate::places::char_after;
 use crate::recent::RecentLines;
 use crate::shown::{pasted, pasted_len};
+use crate::texts::split_first;
 use std::alloc::{AllocError, Allocator};
 
-/// Adds a line and a line feed to a text.
-fn push_line<A: Allocator>(text: &mut String<A>, line: &str) -> Result<(), AllocError>
-    ensures { OnOk result (string_bytes text.new ≡ string_bytes text.old ++ encode_utf8_all (chars line.now ++ 10 ∷ [])) }
+/// Adds a character to a text, escaped.
+fn push_escaped<A: Allocator>(text: &mut String<A>, c: char) -> Result<(), AllocError>
+    ensures { (rest : List ℕ) → OnOk result (string_bytes text.old ++ encode_utf8_all (escaped (c ∷ rest)) ≡ string_bytes text.new ++ encode_utf8_all (escaped rest)) }
 {
-    text.push_str(line)?;
+    match c {
+        '\n' => text.push_str("\\n"),
+        '\\' => text.push_str("\\\\"),
+        _ => text.push(c),
+    }
+}
+
+/// Adds a line to a text, escaped if lines may have several rows.
+fn push_saved<A: Allocator>(
+    text: &mut String<A>,
+    multiline: bool,
+    line: &str,
+) -> Result<(), AllocError>
+    ensures { OnOk result (string_bytes text.new ≡ string_bytes text.old ++ encode_utf8_all (line_saved multiline (chars line.now))) }
+{
+    if !multiline {
+        text.push_str(line)?;
+        return Ok(());
+    }
+    let mut rest = line;
+    while let Some((c, back)) = split_first(rest) {
+        push_escaped(text, c)?;
+        rest = back;
+    }
+    Ok(())
+}
+
+/// Adds a line and a line feed to a text.
+fn push_line<A: Allocator>(
+    text: &mut String<A>,
+    multiline: bool,
+    line: &str,
+) -> Result<(), AllocError>
+    ensures { OnOk result (string_bytes text.new ≡ string_bytes text.old ++ encode_utf8_all (line_saved multiline (chars line.now) ++ 10 ∷ [])) }
+{
+    push_saved(text, multiline, line)?;
     text.push('\n')?;
     Ok(())
 }
@@ -25,16 +61,17 @@ fn push_line<A: Allocator>(text: &mut String<A>, line: &str) -> Result<(), Alloc
 /// The text of a history: its lines, the oldest first, with a line feed behind each.
 pub(crate) fn saved<A: Allocator>(
     alloc: A,
+    multiline: bool,
     history: &RecentLines<A>,
 ) -> Result<String<A>, AllocError>
-    ensures { IfOk result (λ text. chars (string_bytes text) ≡ saved history.now) }
+    ensures { IfOk result (λ text. chars (string_bytes text) ≡ saved multiline history.now) }
 {
     let mut text = String::new(alloc);
     let mut at = history.len();
     while at > 0 {
         at -= 1;
         if let Some(line) = history.text_at(at) {
-            push_line(&mut text, line)?;
+            push_line(&mut text, multiline, line)?;
         }
     }
     Ok(text)
@@ -57,22 +94,84 @@ fn first_line(text: &str) -> (&str, &str)
     (text, "")
 }
 
+/// Adds the character that one of an escaped text means, and returns whether this is a backslash that waits for the next one.
+fn push_unescaped<A: Allocator>(
+    text: &mut String<A>,
+    behind: bool,
+    c: char,
+) -> Result<bool, AllocError>
+    ensures { (rest : List ℕ) → IfOk result (λ waits. string_bytes text.old ++ encode_utf8_all (unescaped behind (c ∷ rest)) ≡ string_bytes text.new ++ encode_utf8_all (unescaped waits rest)) }
+{
+    match (behind, c) {
+        (true, 'n') => text.push('\n')?,
+        (true, '\\') => text.push('\\')?,
+        (true, _) => {
+            text.push('\\')?;
+            text.push(c)?;
+        }
+        (false, '\\') => return Ok(true),
+        (false, _) => text.push(c)?,
+    }
+    Ok(false)
+}
+
+/// Adds a backslash that waits at the end of an escaped text, if one does.
+fn push_waiting<A: Allocator>(text: &mut String<A>, waits: bool) -> Result<(), AllocError>
+    ensures { OnOk result (string_bytes text.new ≡ string_bytes text.old ++ encode_utf8_all (unescaped waits [])) }
+{
+    if waits {
+        text.push('\\')?;
+    }
+    Ok(())
+}
+
+/// The text that was escaped.
+fn unescaped<A: Allocator>(alloc: A, text: &str) -> Result<String<A>, AllocError>
+    ensures { IfOk result (λ new. chars (string_bytes new) ≡ unescaped false (chars text.now)) }
+{
+    let mut new = String::new(alloc);
+    let mut behind = false;
+    let mut rest = text;
+    while let Some((c, back)) = split_first(rest) {
+        behind = push_unescaped(&mut new, behind, c)?;
+        rest = back;
+    }
+    push_waiting(&mut new, behind)?;
+    Ok(new)
+}
+
 /// A line becomes the newest of a history, if what comes of it into a line has room.
+fn add_line<A: Allocator + Clone>(
+    history: &mut RecentLines<A>,
+    alloc: &A,
+    limits: Limits,
+    line: &str,
+) -> Result<(), AllocError>
+    ensures { OnOk result (history.new ≡ with_line limits (pasted_part limits.multiline (chars line.now)) history.old) }
+{
+    let len = pasted_len(limits.multiline, line);
+    if len == 0 || limits.bytes < len {
+        return Ok(());
+    }
+    let text = pasted(alloc.clone()?, limits.multiline, line)?;
+    let line = Line::of_parts(alloc.clone()?, text.as_str(), "")?;
+    history.add(line, limits.lines)
+}
+
+/// A line of a history's text becomes the newest of a history, if it has room.
 fn load_line<A: Allocator + Clone>(
     history: &mut RecentLines<A>,
     alloc: &A,
     limits: Limits,
     line: &str,
 ) -> Result<(), AllocError>
-    ensures { OnOk result (history.new ≡ with_line limits (pasted_part (chars line.now)) history.old) }
+    ensures { OnOk result (history.new ≡ with_line limits (line_read limits.multiline (chars line.now)) history.old) }
 {
-    let len = pasted_len(line);
-    if len == 0 || limits.bytes < len {
-        return Ok(());
+    if !limits.multiline {
+        return add_line(history, alloc, limits, line);
     }
-    let text = pasted(alloc.clone()?, line)?;
-    let line = Line::of_parts(alloc.clone()?, text.as_str(), "")?;
-    history.add(line, limits.lines)
+    let line = unescaped(alloc.clone()?, line)?;
+    add_line(history, alloc, limits, line.as_str())
 }
 
 /// The history that a text holds.

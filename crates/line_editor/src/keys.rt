@@ -1,4 +1,4 @@
-//! What a key asks of an editor: the Emacs bindings of GNU readline.
+//! The commands of keys: the Emacs bindings of GNU readline.
 ghost use Rattle.std.specs.Prelude.{◌≡◌};
 ghost use Rattle.line_editor.specs.Keys as spec;
 
@@ -6,7 +6,7 @@ use crate::actions::{Action, Case};
 use crate::places::{Stop, Target};
 use crossterm_types::event::{KeyCode, KeyEvent, KeyEventKind};
 
-/// What a key asks of an editor.
+/// The command of a key, as an editor takes it.
 #[derive(Clone, Copy, PartialEq, Eq, Debug)]
 pub enum KeyCommand {
     /// An action.
@@ -29,7 +29,7 @@ pub enum KeyCommand {
     EndSearch,
 }
 
-/// What a key asks for without Control and Alt.
+/// The command of a key without Control and Alt.
 fn plain(code: KeyCode) -> Option<KeyCommand>
     ensures { result ≡ spec.unmodified code }
 {
@@ -43,8 +43,8 @@ fn plain(code: KeyCode) -> Option<KeyCommand>
         KeyCode::Right => Action::Go(Target::Forward(Stop::Cluster)),
         KeyCode::Home => Action::Go(Target::Back(Stop::Edge)),
         KeyCode::End => Action::Go(Target::Forward(Stop::Edge)),
-        KeyCode::Up => Action::Older,
-        KeyCode::Down => Action::Newer,
+        KeyCode::Up => Action::RowUp,
+        KeyCode::Down => Action::RowDown,
         KeyCode::PageUp => Action::Search,
         KeyCode::PageDown => Action::SearchForward,
         _ => return None,
@@ -52,7 +52,7 @@ fn plain(code: KeyCode) -> Option<KeyCommand>
     Some(KeyCommand::Act(action))
 }
 
-/// What a character asks for with Control.
+/// The command of a character with Control.
 fn control_char(c: char) -> Option<KeyCommand>
     ensures { result ≡ spec.row_in spec.control_rows c }
 {
@@ -84,7 +84,7 @@ fn control_char(c: char) -> Option<KeyCommand>
     Some(KeyCommand::Act(action))
 }
 
-/// What a key asks for with Control.
+/// The command of a key with Control.
 fn control(code: KeyCode) -> Option<KeyCommand>
     ensures { result ≡ spec.control_key code }
 {
@@ -96,7 +96,7 @@ fn control(code: KeyCode) -> Option<KeyCommand>
     }
 }
 
-/// What a character asks for with Alt.
+/// The command of a character with Alt.
 fn alt_char(c: char) -> Option<KeyCommand>
     ensures { result ≡ spec.row_in spec.alt_rows c }
 {
@@ -116,18 +116,19 @@ fn alt_char(c: char) -> Option<KeyCommand>
     Some(KeyCommand::Act(action))
 }
 
-/// What a key asks for with Alt.
+/// The command of a key with Alt.
 fn alt(code: KeyCode) -> Option<KeyCommand>
     ensures { result ≡ spec.alt code }
 {
     match code {
         KeyCode::Char(c) => alt_char(c.to_ascii_lowercase()),
         KeyCode::Backspace => Some(KeyCommand::Act(Action::Kill(Target::Back(Stop::WordStart)))),
+        KeyCode::Enter => Some(KeyCommand::Act(Action::Insert('\n'))),
         _ => None,
     }
 }
 
-/// What a key asks for with Control and Alt.
+/// The command of a key with Control and Alt.
 fn both(code: KeyCode) -> Option<KeyCommand>
     ensures { result ≡ spec.control_alt_key code }
 {
@@ -138,7 +139,7 @@ fn both(code: KeyCode) -> Option<KeyCommand>
     }
 }
 
-/// What a key asks of an editor, by the Emacs bindings of GNU readline, and `None` if it is bound to nothing or was let go.
+/// The command of a key, by the Emacs bindings of GNU readline, and `None` if the key is bound to nothing or was let go.
 ///
 /// | Keys | Command of readline |
 /// |---|---|
@@ -155,7 +156,7 @@ fn both(code: KeyCode) -> Option<KeyCommand>
 /// | `Alt-\` | `delete-horizontal-space` |
 /// | Alt-. | `yank-last-arg` |
 /// | Ctrl-_ | `undo` |
-/// | Up, Ctrl-P; Down, Ctrl-N | `previous-history`, `next-history` |
+/// | Up, Ctrl-P; Down, Ctrl-N | `previous-history`, `next-history`; Up and Down go by rows first in a line of several |
 /// | Ctrl-R; Ctrl-S | `reverse-search-history`, `forward-search-history` |
 /// | Ctrl-G | `abort` |
 /// | Page Up; Page Down | `history-search-backward`, `history-search-forward` |
@@ -163,11 +164,12 @@ fn both(code: KeyCode) -> Option<KeyCommand>
 /// | Enter, Ctrl-J, Ctrl-M | `accept-line` |
 /// | Ctrl-C | an interrupt |
 /// | Ctrl-Alt-_ | a redo, which readline hasn't |
+/// | Alt-Enter | a line feed, if lines may have several rows (`Limits::multiline`) |
 ///
 /// These are 33 usual commands, of which bash binds 31 by default, and 85 in all. Terminals report Ctrl-_ as Ctrl-7, and both are bound. Shift makes no
 /// difference but in the character, and large letters with Control or Alt are as small ones.
 ///
-/// What differs from readline:
+/// The differences from readline:
 ///
 /// | Here | In readline |
 /// |---|---|
@@ -197,7 +199,7 @@ fn both(code: KeyCode) -> Option<KeyCommand>
 /// | Ctrl-W, Ctrl-Y and a paste take what was found, as other keys do | they bring more into what is looked for |
 /// | Ctrl-C gives a search up | it lets the line go |
 /// | what Backspace brings back stays the line that is shown | an older line with the shorter text may come |
-/// | line ends and tabs of a paste are blanks | they are kept |
+/// | line ends and tabs of a paste are blanks, or line feeds and blanks in a line of several rows | they are kept |
 ///
 /// ```
 /// let key = KeyEvent::new(KeyCode::Char('k'), KeyModifiers::CONTROL);

@@ -4,7 +4,7 @@ ghost use Rattle.std.specs.List.{AllByRecursion};
 ghost use Rattle.std.specs.Str.{chars};
 ghost use Rattle.std.specs.VecDeque.{deque_capacity, deque_len};
 ghost use Rattle.line_editor.specs.Kills.{kill_at, kills_before, next_place, texts};
-ghost use Rattle.line_editor.specs.Shown.{AreShown};
+ghost use Rattle.line_editor.specs.Shown.{AreRows};
 
 use crate::last::Last;
 use std::alloc::Allocator;
@@ -12,9 +12,9 @@ use std::collections::VecDeque;
 
 /// The kill with so many newer ones, or no text if there is none.
 pub(crate) fn kill_at<A: Allocator>(kills: &VecDeque<String<A>, A>, at: usize) -> &str
-    requires { AllByRecursion AreShown (texts kills.now.items) }
+    requires { AllByRecursion AreRows (texts kills.now.items) }
     ensures text { chars result.now ≡ kill_at (texts kills.now.items) at }
-    ensures shown { AreShown (chars result.now) }
+    ensures shown { AreRows (chars result.now) }
 {
     match kills.get(at) {
         None => "",

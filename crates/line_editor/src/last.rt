@@ -1,4 +1,4 @@
-//! What an editor's last action was.
+//! The last action of an editor.
 ghost use Rattle.std.specs.Prelude.{◌≡◌};
 ghost use Rattle.line_editor.specs.States.{rung};
 
@@ -11,7 +11,7 @@ pub(crate) struct Seek {
     pub(crate) found: bool,
 }
 
-/// What the last action was, as far as the next one goes on with it.
+/// The last action, as far as the next one goes on with it.
 #[derive(Clone, Copy, PartialEq, Eq, Debug)]
 pub(crate) enum Last {
     /// Nothing that another one goes on with.

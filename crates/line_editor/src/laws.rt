@@ -4,7 +4,7 @@ ghost use Rattle.line_editor.specs.declared.actions.Action.{Action};
 ghost use Rattle.line_editor.specs.declared.places.Target.{Target};
 ghost use Rattle.line_editor.specs.declared.limits.Limits.{Limits};
 ghost use Rattle.line_editor.specs.Bounded.{LoadsSaved, StaysBounded};
-ghost use Rattle.line_editor.specs.Laws.{CanBeUndone, ComesBack, CutsOut, FindsNearest, FindsNewer, FindsPiece, KeepsHistory, KeepsText, RedoesUndone, WritesAt, YanksBack};
+ghost use Rattle.line_editor.specs.Laws.{CanBeUndone, ChangesRow, ComesBack, CutsOut, FindsNearest, FindsNewer, FindsPiece, KeepsHistory, KeepsText, RedoesUndone, WritesAt, YanksBack};
 ghost use Rattle.line_editor.specs.Names.{NameReadsBack};
 ghost use Rattle.line_editor.specs.Seen.{IsSeenIn, KeepsClusters};
 ghost use Rattle.line_editor.specs.Splits.{Split};
@@ -16,12 +16,17 @@ pub fn keeps_text()
     ensures { (target : Target) (d : Split) → KeepsText target d }
 {}
 
-/// What is erased was one piece of the text, and the rest of the text stays.
+/// Going into the row above or below keeps the text, and there is such a row exactly if a line feed is on that side of the cursor.
+pub fn changes_row()
+    ensures { (up : Bool) (d : Split) → ChangesRow up d }
+{}
+
+/// An erasure takes one piece out of the text, and the rest of the text stays.
 pub fn cuts_out()
     ensures { (target : Target) (d : Split) → CutsOut target d }
 {}
 
-/// What is inserted is at the cursor, and the rest of the text stays.
+/// An inserted text is at the cursor, and the rest of the text stays.
 pub fn writes_at()
     ensures { (text : List ℕ) (d : Split) → WritesAt text d }
 {}
@@ -66,12 +71,12 @@ pub fn finds_newer()
     ensures { (is : List ℕ → Bool) (n : ℕ) (lines : List Split) → FindsNewer is n lines }
 {}
 
-/// What is seen of a line has room in a row, and so has the cursor, at its place in the line.
+/// The part of a line that is seen has room in a row, and so has the cursor, at its place in the line.
 pub fn fits()
     ensures { (room : ℕ) (d : Split) → IsSeenIn room d }
 {}
 
-/// What is seen of a line begins and ends between clusters, if the cursor is between clusters.
+/// The part of a line that is seen begins and ends between clusters, if the cursor is between clusters.
 pub fn keeps_clusters()
     ensures { (room : ℕ) (d : Split) → KeepsClusters room d }
 {}

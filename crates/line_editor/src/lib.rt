@@ -1,4 +1,4 @@
-//! Lines that are edited: an editor of one line, with the usual actions of GNU readline, undo and a history.
+//! Lines that are edited: an editor of one line, with the usual actions of GNU readline, undo and a history. A line may have several rows.
 //!
 //! An `Editor` has a `Line`, a text with a cursor that is never within an extended grapheme cluster (Unicode's UAX 29). An `Action` is done
 //! by `Editor::act`. Moves, erasures and kills take a `Target`, the next stop in a direction. `Line::seen` says what is seen of the line in a
@@ -18,12 +18,14 @@
 //!
 //! | Proved | By the contract of |
 //! |---|---|
-//! | what each action makes of an editor, and each refusal by name: a text is refused as too long exactly if it has no room, and nothing has changed; line ends and tabs of a paste are blanks, kills side by side are one text, and a ring of kills turns | `Editor::{act, paste}` |
+//! | what each action makes of an editor, and each refusal by name: a text is refused as too long exactly if it has no room, and nothing has changed; line ends and tabs of a paste are blanks, or line feeds and blanks in a line of several rows, kills side by side are one text, and a ring of kills turns | `Editor::{act, paste}` |
 //! | some actions are done one after another, or those before the first that is refused | `Editor::run` |
 //! | neither a move nor letting a line go is ever refused | `Editor::{act, let_go}` |
 //! | an accepted line has its text, and is the newest of as many lines as the limit says, unless the limits leave it out | `Editor::accept` |
 //! | a line's cursor is between clusters, whatever was typed, pasted or erased | `Line::before` |
-//! | a line has no control character, and none of more than two columns | `Line::{text, before, cut, seen}`, `Editor::accept` |
+//! | a line has no control character but line feeds, and none of more than two columns | `Line::{text, before, cut, seen}`, `Editor::accept` |
+//! | unless the limits let lines have several rows, no line, kill or search has a line feed | `laws::stays_bounded` |
+//! | Up and Down go to the row above or below before they go to the history, and keep the text; there is such a row exactly if a line feed is on that side | `Editor::act`, `command_of`, `laws::changes_row` |
 //! | a move keeps the text; what is erased was one piece; what is written is at the cursor; a kill and a yank give the text back | `laws::{keeps_text, cuts_out, writes_at, yanks_back}` |
 //! | undo gives back what was there before any actions on a line, as long as the steps suffice, and redo what was undone | `laws::{can_be_undone, redoes_undone}` |
 //! | Ctrl-L changes no line, and ends kills side by side | `Editor::turn` |
@@ -48,6 +50,7 @@
 //! | `Recent` | lists of lines, the newest first | |
 //! | `Kills` | the texts that were killed, and the ring in which they are yanked | |
 //! | `Shown` | the characters that a line has, and those of a paste | `Line::text`, `Editor::paste` |
+//! | `Rows` | the rows of a line, and the place in the row above or below | `Editor::act`, `laws::changes_row` |
 //! | `Cases` | words in capitals and in small letters | |
 //! | `States` | an editor's state, and what each action makes of it | `Editor` |
 //! | `Bounds` | which texts have room, and what is refused | `Editor::{act, run, paste}` |
@@ -86,6 +89,7 @@ mod names;
 mod outcome;
 mod places;
 mod recent;
+mod rows;
 mod seeking;
 mod shown;
 mod texts;

@@ -20,10 +20,13 @@ pub struct Limits {
     pub ignore_dups: bool,
     /// Whether an accepted line that begins with a blank isn't kept, as by `ignorespace`.
     pub ignore_space: bool,
+    /// Whether a line may have several rows, with a line feed between two of them. Then Alt-Enter types one, a paste keeps its line ends, and
+    /// the text of a history has `\n` for each.
+    pub multiline: bool,
 }
 
 impl Default for Limits {
-    /// 65,536 bytes, 1,000 lines, 1,000 steps and 60 kills. Each accepted line is kept but an empty one.
+    /// 65,536 bytes, 1,000 lines, 1,000 steps and 60 kills. Each accepted line is kept but an empty one, and a line has one row.
     fn default() -> Self {
         Limits {
             bytes: 65_536,
@@ -32,6 +35,7 @@ impl Default for Limits {
             kills: 60,
             ignore_dups: false,
             ignore_space: false,
+            multiline: false,
         }
     }
 }

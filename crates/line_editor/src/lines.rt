@@ -7,8 +7,9 @@ ghost use Rattle.unicode_segmentation.specs.Segments.{chars_before, chars_from};
 ghost use Rattle.line_editor.specs.Bounds.{size};
 ghost use Rattle.line_editor.specs.Edits.{IsSettled, cut_text, empty_line, reach_end, erased, inserted, line_with, meeting, settled, start_of, transposed};
 ghost use Rattle.line_editor.specs.Places.{target_place};
+ghost use Rattle.line_editor.specs.Rows.{row_place};
 ghost use Rattle.line_editor.specs.Seen.{IsInClusters, IsSeen};
-ghost use Rattle.line_editor.specs.Shown.{AreShown, is_shown};
+ghost use Rattle.line_editor.specs.Shown.{AreRows, comes_in};
 ghost use Rattle.line_editor.specs.Splits.{bytes_before, split_at, line_text};
 ghost use Rattle.line_editor.specs.States.{behind_front, found_line};
 ghost use Rattle.line_editor.specs.Views.{column, seen_text};
@@ -16,6 +17,7 @@ ghost use Rattle.line_editor.specs.inside.Changes.{Fits, TakesBack, line_bytes, 
 
 use crate::changes::Change;
 use crate::places::{Stop, Target, ahead, place_of};
+use crate::rows::row_place;
 use crate::texts::{before_end, is_nothing, split_last, utf8_len};
 use crate::views::{end_seen, start_seen};
 use std::alloc::{AllocError, Allocator, Global};
@@ -23,7 +25,7 @@ use std::marker::Model;
 use std::mem;
 
 /// A line of text with a cursor, which is between two extended grapheme clusters (UAX 29) or at an end of the line. A line has no control
-/// characters, and none of more than two columns.
+/// character but line feeds, which part its rows, and none of more than two columns.
 ///
 /// ```
 /// editor.paste("cafe\u{301}")?;
@@ -44,14 +46,14 @@ impl<A: Allocator> Model for Line<A> {
     ghost use Rattle.unicode_segmentation.specs.Segments.{breaks_at};
     ghost use Rattle.line_editor.specs.Splits.{Split, split_at};
     ghost use Rattle.line_editor.specs.Places.{is_between};
-    ghost use Rattle.line_editor.specs.Shown.{AreShown};
+    ghost use Rattle.line_editor.specs.Shown.{AreRows};
 
     ghost Value = { Split };
 
     ghost view = { λ l. split_at (string_bytes l.text) l.at };
 
     ghost invariant = { λ l. IsCharBoundary (string_bytes l.text) l.at × (breaks_at is_between (string_bytes l.text) l.at ≡ true)
-        × AreShown (chars (string_bytes l.text)) };
+        × AreRows (chars (string_bytes l.text)) };
 }
 
 /// A text in which another one takes the place of what is between two places.
@@ -103,8 +105,8 @@ fn edited<A: Allocator>(
     requires order { from ≤ to }
     requires from { IsCharBoundary text.now from }
     requires to { IsCharBoundary text.now to }
-    requires text { AreShown (chars text.now) }
-    requires with { AreShown (chars with.now) }
+    requires text { AreRows (chars text.now) }
+    requires with { AreRows (chars with.now) }
     ensures { IfOk result (λ line. line ≡ line_with (split_at text.now from) (chars with.now) (split_at text.now to)) }
 {
     let new = spliced(alloc, text, from, to, with)?;
@@ -158,8 +160,8 @@ impl<A: Allocator> Line<A> {
     ///
     /// `AllocError` if memory was refused.
     pub(crate) fn of_parts(alloc: A, before: &str, after: &str) -> Result<Line<A>, AllocError>
-        requires before { AreShown (chars before.now) }
-        requires after { AreShown (chars after.now) }
+        requires before { AreRows (chars before.now) }
+        requires after { AreRows (chars after.now) }
         ensures { IfOk result (λ line. line ≡ settled (record { before = reverse (chars before.now); after = chars after.now })) }
     {
         edited(alloc, after, 0, 0, before)
@@ -171,8 +173,8 @@ impl<A: Allocator> Line<A> {
     ///
     /// `AllocError` if memory was refused.
     pub(crate) fn found(alloc: A, front: &str, rest: &str) -> Result<Line<A>, AllocError>
-        requires front { AreShown (chars front.now) }
-        requires rest { AreShown (chars rest.now) }
+        requires front { AreRows (chars front.now) }
+        requires rest { AreRows (chars rest.now) }
         ensures { IfOk result (λ line. line ≡ found_line (chars front.now) (chars rest.now)) }
     {
         if is_nothing(front) {
@@ -189,7 +191,7 @@ impl<A: Allocator> Line<A> {
     pub fn text(&self) -> &str
         ensures text { chars result.now ≡ line_text self.now }
         ensures len { length result.now ≡ size (line_text self.now) }
-        ensures shown { AreShown (chars result.now) }
+        ensures shown { AreRows (chars result.now) }
     {
         self.text.as_str()
     }
@@ -202,7 +204,7 @@ impl<A: Allocator> Line<A> {
     pub fn before(&self) -> &str
         ensures text { reverse (chars result.now) ≡ self.now.before }
         ensures between { IsSettled self.now }
-        ensures shown { AreShown (chars result.now) }
+        ensures shown { AreRows (chars result.now) }
     {
         &self.text.as_str()[..self.at]
     }
@@ -225,6 +227,19 @@ impl<A: Allocator> Line<A> {
         self.at = place_of(self.text.as_str(), self.at, target);
     }
 
+    /// Brings the cursor into the row above or below, and returns whether there is one.
+    pub(crate) fn go_row(&mut self, up: bool) -> bool
+        ensures { MatchBool result (row_place up self.old ≡ Some self.new) ((row_place up self.old ≡ None) × (self.new ≡ self.old)) }
+    {
+        match row_place(self.text.as_str(), self.at, up) {
+            None => false,
+            Some(place) => {
+                self.at = place;
+                true
+            }
+        }
+    }
+
     /// Lets the text go. Its memory stays.
     pub(crate) fn clear(&mut self)
         ensures { self.new ≡ empty_line }
@@ -241,7 +256,7 @@ impl<A: Allocator> Line<A> {
     ///
     /// `AllocError` if memory was refused. Then nothing has changed.
     pub(crate) fn insert(&mut self, text: &str) -> Result<usize, AllocError>
-        requires { AreShown (chars text.now) }
+        requires { AreRows (chars text.now) }
         ensures ok { OnOk result (self.new ≡ inserted (chars text.now) self.old) }
         ensures bytes { OnOk result (line_bytes self.new ≡ insert_slice (line_bytes self.old) (bytes_before self.old) text.now) }
         ensures end { IfOk result (λ end. end ≡ bytes_before self.old + length text.now) }
@@ -315,7 +330,7 @@ impl<A: Allocator> Line<A> {
     /// ```
     pub fn seen(&self, room: u16) -> (&str, usize)
         ensures text { chars result.0.now ≡ seen_text room self.now }
-        ensures shown { AreShown (chars result.0.now) }
+        ensures shown { AreRows (chars result.0.now) }
         ensures column { result.1 ≡ column room self.now }
         ensures few { result.1 ≤ 65535 }
         ensures fits { 0 < room → IsSeen room self.now }
@@ -334,7 +349,7 @@ impl<A: Allocator> Line<A> {
     /// ```
     pub fn cut(&self, target: Target) -> &str
         ensures text { chars result.now ≡ cut_text target self.now }
-        ensures shown { AreShown (chars result.now) }
+        ensures shown { AreRows (chars result.now) }
     {
         let text = self.text.as_str();
         let (from, to) = reach(text, self.at, target);
@@ -361,7 +376,7 @@ impl<A: Allocator + Clone> Line<A> {
     ///
     /// `AllocError` if memory was refused.
     pub(crate) fn copy_with(&self, c: char) -> Result<Line<A>, AllocError>
-        requires { is_shown c ≡ true }
+        requires { comes_in true c ≡ true }
         ensures { IfOk result (λ line. line ≡ inserted (c ∷ []) self.now) }
     {
         let mut line = self.copy()?;
@@ -398,7 +413,7 @@ impl<A: Allocator + Clone> Line<A> {
         requires order { from ≤ to }
         requires from { IsCharBoundary (line_bytes self.old) from }
         requires to { IsCharBoundary (line_bytes self.old) to }
-        requires with { AreShown (chars with.now) }
+        requires with { AreRows (chars with.now) }
         ensures ok { OnOk result (self.new ≡ line_with (split_at (line_bytes self.old) from) (chars with.now) (split_at (line_bytes self.old) to)) }
         ensures back { IfOk result (λ c. TakesBack c self.old self.new) }
         ensures end { IfOk result (λ c. c.to ≤ bytes_before self.new) }
@@ -451,7 +466,7 @@ impl<A: Allocator + Clone> Line<A> {
     ///
     /// `AllocError` if memory was refused. Then nothing has changed.
     pub(crate) fn put(&mut self, text: &str) -> Result<Change<A>, AllocError>
-        requires { AreShown (chars text.now) }
+        requires { AreRows (chars text.now) }
         ensures ok { OnOk result (self.new ≡ inserted (chars text.now) self.old) }
         ensures back { IfOk result (λ c. TakesBack c self.old self.new) }
         ensures end { IfOk result (λ c. c.to ≤ bytes_before self.new) }

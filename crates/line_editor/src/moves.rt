@@ -1,9 +1,9 @@
 //! The history of an editor: lines that were accepted are shown and edited, and searched by their beginning.
-ghost use Rattle.std.specs.Prelude.{◌≡◌, ◌+◌, IfOk, OnOk, OnErr};
+ghost use Rattle.std.specs.Prelude.{◌≡◌, ◌+◌, false, true, IfOk, OnOk, OnErr};
 ghost use Rattle.std.specs.Str.{chars};
-ghost use Rattle.line_editor.specs.Shown.{AreShown};
+ghost use Rattle.line_editor.specs.Shown.{AreRows};
 ghost use Rattle.line_editor.specs.Edits.{empty_line};
-ghost use Rattle.line_editor.specs.States.{brought_to, found, found_newer, gone_to, left_at, line_at, line_or, newer_from, searched_forward, searched_to, sought};
+ghost use Rattle.line_editor.specs.States.{brought_to, by_row, found, found_newer, gone_to, left_at, line_at, line_or, newer_from, row_beside, searched_forward, searched_to, sought};
 
 use crate::editor::Editor;
 use crate::last::Last;
@@ -104,10 +104,32 @@ impl<A: Allocator + Clone> Editor<A> {
         self.go_to(back - 1)
     }
 
-    /// What a search looks for at the beginning of lines.
+    /// Brings the cursor into the row above, or shows the next older line if it is in the first row.
+    pub(crate) fn row_up(&mut self) -> Result<(), AllocError>
+        ensures ok { OnOk result (self.new ≡ by_row (row_beside true self.old) (gone_to (self.old.back + 1) (line_at (self.old.back + 1) self.old) self.old) self.old) }
+        ensures err { OnErr result (self.new ≡ self.old) }
+    {
+        if self.limits.multiline && self.draft.go_row(true) {
+            return Ok(());
+        }
+        self.older()
+    }
+
+    /// Brings the cursor into the row below, or shows the next newer line if it is in the last row.
+    pub(crate) fn row_down(&mut self) -> Result<(), AllocError>
+        ensures ok { OnOk result (self.new ≡ by_row (row_beside false self.old) (newer_from self.old.back self.old) self.old) }
+        ensures err { OnErr result (self.new ≡ self.old) }
+    {
+        if self.limits.multiline && self.draft.go_row(false) {
+            return Ok(());
+        }
+        self.newer()
+    }
+
+    /// The text that a search looks for at the beginning of lines.
     pub(crate) fn sought(&self) -> &str
         ensures text { chars result.now ≡ sought self.now }
-        ensures shown { AreShown (chars result.now) }
+        ensures shown { AreRows (chars result.now) }
     {
         match self.last {
             Last::Walked => "",

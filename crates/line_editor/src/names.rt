@@ -34,6 +34,7 @@ impl fmt::Display for Action {
     fn fmt<W: fmt::Write>(&self, f: &mut fmt::Formatter<W>) -> fmt::Result {
         match self {
             Action::Insert(' ') => write!(f, "insert-space"),
+            Action::Insert('\n') => write!(f, "insert-newline"),
             Action::Insert(c) => write!(f, "insert-{c}"),
             Action::Go(target) => write!(f, "go-{target}"),
             Action::Erase(target) => write!(f, "erase-{target}"),
@@ -45,6 +46,8 @@ impl fmt::Display for Action {
             Action::Redo => write!(f, "redo"),
             Action::Older => write!(f, "older"),
             Action::Newer => write!(f, "newer"),
+            Action::RowUp => write!(f, "row-up"),
+            Action::RowDown => write!(f, "row-down"),
             Action::Search => write!(f, "search"),
             Action::SearchForward => write!(f, "search-forward"),
             Action::CaseWord(Case::Upper) => write!(f, "upcase-word"),
@@ -88,6 +91,8 @@ fn word_named(name: &str) -> Option<Action>
         "redo" => Some(Action::Redo),
         "older" => Some(Action::Older),
         "newer" => Some(Action::Newer),
+        "row-up" => Some(Action::RowUp),
+        "row-down" => Some(Action::RowDown),
         "search" => Some(Action::Search),
         "search-forward" => Some(Action::SearchForward),
         "upcase-word" => Some(Action::CaseWord(Case::Upper)),
@@ -116,7 +121,11 @@ fn char_named(name: &str) -> Option<char>
 {
     match one_char(name) {
         Some(c) => Some(c),
-        None => { if name == "space" { Some(' ') } else { None } }
+        None => match name {
+            "space" => Some(' '),
+            "newline" => Some('\n'),
+            _ => None,
+        },
     }
 }
 
@@ -138,10 +147,10 @@ impl Action {
     ///
     /// | Names | Actions |
     /// |---|---|
-    /// | `insert-x`, `insert-space` | typing of a character |
+    /// | `insert-x`, `insert-space`, `insert-newline` | typing of a character |
     /// | `go-`, `erase-` or `kill-`, and a target's name | moves, erasures and kills |
     /// | `upcase-word`, `downcase-word`, `capitalize-word` | words in another case |
-    /// | `yank`, `yank-pop`, `transpose`, `undo`, `redo`, `older`, `newer`, `search`, `search-forward`, `transpose-words`, `erase-blanks`, `last-word` | the others |
+    /// | `yank`, `yank-pop`, `transpose`, `undo`, `redo`, `older`, `newer`, `row-up`, `row-down`, `search`, `search-forward`, `transpose-words`, `erase-blanks`, `last-word` | the others |
     ///
     /// Targets are `char-back`, `char-forward`, `word-back`, `word-forward`, `word-end-back`, `word-start-forward`, `blank-back`,
     /// `blank-forward`, `line-start` and `line-end`.

@@ -1,8 +1,8 @@
-//! What comes of an event.
+//! The outcome of an event.
 
 use std::alloc::{Allocator, Global};
 
-/// What comes of an event that an editor takes.
+/// The outcome of an event that an editor takes.
 #[derive(Drop)]
 #[derive_where(Debug, PartialEq, Eq)]
 pub enum Outcome<A: Allocator = Global> {

@@ -4,7 +4,7 @@ ghost use Rattle.std.specs.Option.{option_map};
 ghost use Rattle.std.specs.Str.{chars};
 ghost use Rattle.line_editor.specs.Edits.{last_word};
 ghost use Rattle.line_editor.specs.Seeking.{first_number, is_wanted, last_number, wanted};
-ghost use Rattle.line_editor.specs.Shown.{AreShown};
+ghost use Rattle.line_editor.specs.Shown.{AreRows};
 ghost use Rattle.line_editor.specs.Splits.{line_text};
 ghost use Rattle.line_editor.specs.States.{first_with, is_newest, last_with, last_word_of};
 
@@ -33,7 +33,7 @@ impl<A: Allocator> Model for RecentLines<A> {
 /// The last word between white space of a line whose cursor is at its end.
 fn last_word<A: Allocator>(line: &Line<A>) -> &str
     ensures text { chars result.now ≡ last_word line.now }
-    ensures shown { AreShown (chars result.now) }
+    ensures shown { AreRows (chars result.now) }
 {
     let text = line.cut(Target::Back(Stop::Blank));
     let end = unblanked_before(text, text.len());
@@ -91,7 +91,7 @@ impl<A: Allocator> RecentLines<A> {
     /// The text of the line with so many newer ones, if there is one.
     pub(crate) fn text_at(&self, at: usize) -> Option<&str>
         ensures text { option_map (λ text. chars text.now) result ≡ option_map line_text (slice_get self.now at) }
-        ensures shown { IfSome result (λ text. AreShown (chars text.now)) }
+        ensures shown { IfSome result (λ text. AreRows (chars text.now)) }
     {
         match self.lines.get(at) {
             None => None,
@@ -102,7 +102,7 @@ impl<A: Allocator> RecentLines<A> {
     /// The last word between white space of the line with so many newer ones, or no text if there is no such line.
     pub(crate) fn last_word(&self, at: usize) -> &str
         ensures text { chars result.now ≡ last_word_of (slice_get self.now at) }
-        ensures shown { AreShown (chars result.now) }
+        ensures shown { AreRows (chars result.now) }
     {
         match self.lines.get(at) {
             None => "",
@@ -124,7 +124,7 @@ impl<A: Allocator> RecentLines<A> {
     /// of it.
     pub(crate) fn find(&self, front: &str, shown: &str, from: usize) -> Option<(usize, &str)>
         ensures found { option_map (λ found. (found.0, chars found.1.now)) result ≡ first_with (chars front.now) (chars shown.now) from (drop from self.now) }
-        ensures shown { IfSome result (λ found. AreShown (chars found.1.now)) }
+        ensures shown { IfSome result (λ found. AreRows (chars found.1.now)) }
     {
         for at in from..self.lines.len() {
             if let Some(text) = self.text_at(at) {
@@ -140,7 +140,7 @@ impl<A: Allocator> RecentLines<A> {
     /// rest of it.
     pub(crate) fn find_newer(&self, front: &str, shown: &str, count: usize) -> Option<(usize, &str)>
         ensures found { option_map (λ found. (found.0, chars found.1.now)) result ≡ last_with (chars front.now) (chars shown.now) count self.now }
-        ensures shown { IfSome result (λ found. AreShown (chars found.1.now)) }
+        ensures shown { IfSome result (λ found. AreRows (chars found.1.now)) }
     {
         let mut number = count;
         while number > 0 {

@@ -3,7 +3,7 @@ ghost use Rattle.std.specs.Prelude.{◌≡◌, ◌-◌, IfOk, IfSome, OnErr, OnO
 ghost use Rattle.std.specs.Option.{option_map};
 ghost use Rattle.std.specs.Str.{chars};
 ghost use Rattle.line_editor.specs.Seeking.{begun, brought, found_here, found_next, given_up, has_found, is_ahead, is_more, is_seeking, pattern_of, put_back, rings_less, rings_more, rings_next, rings_with, sought_less, sought_more, sought_next, sought_on, sought_with};
-ghost use Rattle.line_editor.specs.Shown.{AreShown};
+ghost use Rattle.line_editor.specs.Shown.{AreRows};
 ghost use Rattle.line_editor.specs.Splits.{line_text};
 ghost use Rattle.line_editor.specs.States.{gone_to};
 ghost use Rattle.line_editor.specs.Turns.{search_key};
@@ -14,10 +14,10 @@ use crate::keys::KeyCommand;
 use crate::last::{Last, Seek, rung};
 use crate::lines::Line;
 use crate::places::{Stop, Target};
-use crate::shown::is_shown;
+use crate::shown::comes_in;
 use std::alloc::{AllocError, Allocator};
 
-/// What a key is to an incremental search that goes on.
+/// A key, as an incremental search that goes on takes it.
 #[derive(Clone, Copy, PartialEq, Eq, Debug)]
 pub(crate) enum SearchKey {
     /// A character of what is looked for.
@@ -28,11 +28,12 @@ pub(crate) enum SearchKey {
     GiveUp,
 }
 
-/// What the key of a command is to a search, if it doesn't end one.
+/// The key of a command, as a search takes it, if it doesn't end one.
 pub(crate) fn search_key(command: KeyCommand) -> Option<SearchKey>
     ensures { result ≡ search_key command }
 {
     match command {
+        KeyCommand::Act(Action::Insert('\n')) => None,
         KeyCommand::Act(Action::Insert(c)) => Some(SearchKey::More(c)),
         KeyCommand::Act(Action::Erase(Target::Back(Stop::Cluster))) => Some(SearchKey::Less),
         KeyCommand::Interrupt => Some(SearchKey::GiveUp),
@@ -71,7 +72,7 @@ fn has_found(last: Last) -> bool
 }
 
 impl<A: Allocator> Editor<A> {
-    /// What an incremental search looks for, while one goes on. The line is what it found.
+    /// The text that an incremental search looks for, while one goes on. The line is the one that it found.
     ///
     /// ```
     /// if let Some(pattern) = editor.pattern() {
@@ -80,7 +81,7 @@ impl<A: Allocator> Editor<A> {
     /// ```
     pub fn pattern(&self) -> Option<&str>
         ensures text { option_map (λ text. chars text.now) result ≡ pattern_of self.now }
-        ensures shown { IfSome result (λ text. AreShown (chars text.now)) }
+        ensures shown { IfSome result (λ text. AreRows (chars text.now)) }
     {
         if is_seeking(self.last) {
             return Some(self.pattern.text());
@@ -111,7 +112,9 @@ impl<A: Allocator> Editor<A> {
         ensures { result ≡ is_more c self.now }
     {
         let len = self.pattern.text().len();
-        is_shown(c) && len <= self.limits.bytes && c.len_utf8() <= self.limits.bytes - len
+        comes_in(self.limits.multiline, c)
+            && len <= self.limits.bytes
+            && c.len_utf8() <= self.limits.bytes - len
     }
 
     /// The next line with what is looked for, and another text.

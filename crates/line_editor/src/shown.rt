@@ -1,15 +1,15 @@
-//! What of a text comes into a line.
-ghost use Rattle.std.specs.Prelude.{◌≡◌, ◌∷◌, true, IfOk, MatchOption};
+//! The part of a text that comes into a line.
+ghost use Rattle.std.specs.Prelude.{◌≡◌, ◌∷◌, false, true, IfOk, MatchOption};
 ghost use Rattle.std.specs.Str.{chars};
 ghost use Rattle.std.specs.String.{string_bytes};
 ghost use Rattle.line_editor.specs.Bounds.{size};
-ghost use Rattle.line_editor.specs.Shown.{AreShown, begins_behind_gap, is_gap, is_shown, pasted_part};
+ghost use Rattle.line_editor.specs.Shown.{AreRows, begins_behind_gap, begins_with_feed, comes_in, is_gap, is_shown, pasted_part};
 
 use crate::texts::split_first;
 use std::alloc::{AllocError, Allocator};
 use unicode_width::UnicodeWidthChar;
 
-/// Whether a character comes into a line: it is no control character, and takes two columns at most.
+/// Whether a character is shown: it is no control character, and takes two columns at most.
 pub(crate) fn is_shown(c: char) -> bool
     ensures { result ≡ is_shown c }
 {
@@ -17,6 +17,13 @@ pub(crate) fn is_shown(c: char) -> bool
         None => false,
         Some(width) => width <= 2,
     }
+}
+
+/// Whether a character comes into a line: it is shown, or it is a line feed and lines may have several rows.
+pub(crate) fn comes_in(multiline: bool, c: char) -> bool
+    ensures { result ≡ comes_in multiline c }
+{
+    multiline && c == '\n' || is_shown(c)
 }
 
 /// Whether a character is a tab or a part of a line's end.
@@ -36,11 +43,11 @@ fn begins_behind_gap(text: &str) -> bool
     false
 }
 
-/// What comes into a line for a character of a paste, before the rest of the paste. Of some line ends and tabs the last one gives a blank,
-/// unless nothing is behind it.
-fn pasted_char(c: char, rest: &str) -> Option<char>
-    ensures { MatchOption result (pasted_part (c ∷ chars rest.now) ≡ pasted_part (chars rest.now))
-        (λ d. (pasted_part (c ∷ chars rest.now) ≡ d ∷ pasted_part (chars rest.now)) × (is_shown d ≡ true)) }
+/// The character that comes into a line of one row for one of a paste, before the rest of the paste. Of some line ends and tabs the last one
+/// gives a blank, unless nothing is behind it.
+fn blanked_char(c: char, rest: &str) -> Option<char>
+    ensures { MatchOption result (pasted_part false (c ∷ chars rest.now) ≡ pasted_part false (chars rest.now))
+        (λ d. (pasted_part false (c ∷ chars rest.now) ≡ d ∷ pasted_part false (chars rest.now)) × (comes_in false d ≡ true)) }
 {
     if is_gap(c) {
         return if begins_behind_gap(rest) {
@@ -52,14 +59,54 @@ fn pasted_char(c: char, rest: &str) -> Option<char>
     if is_shown(c) { Some(c) } else { None }
 }
 
+/// Whether a text begins with a line feed.
+fn begins_with_feed(text: &str) -> bool
+    ensures { result ≡ begins_with_feed (chars text.now) }
+{
+    let Some((c, _)) = split_first(text) else {
+        return false;
+    };
+    c == '\n'
+}
+
+/// The character that comes into a line of several rows for one of a paste, before the rest of the paste. A line end gives a line feed, and
+/// a tab a blank.
+fn fed_char(c: char, rest: &str) -> Option<char>
+    ensures { MatchOption result (pasted_part true (c ∷ chars rest.now) ≡ pasted_part true (chars rest.now))
+        (λ d. (pasted_part true (c ∷ chars rest.now) ≡ d ∷ pasted_part true (chars rest.now)) × (comes_in true d ≡ true)) }
+{
+    if c == '\r' {
+        return if begins_with_feed(rest) {
+            None
+        } else {
+            Some('\n')
+        };
+    }
+    if c == '\t' {
+        return Some(' ');
+    }
+    if comes_in(true, c) { Some(c) } else { None }
+}
+
+/// The character that comes into a line for one of a paste, before the rest of the paste.
+fn pasted_char(multiline: bool, c: char, rest: &str) -> Option<char>
+    ensures { MatchOption result (pasted_part multiline (c ∷ chars rest.now) ≡ pasted_part multiline (chars rest.now))
+        (λ d. (pasted_part multiline (c ∷ chars rest.now) ≡ d ∷ pasted_part multiline (chars rest.now)) × (comes_in multiline d ≡ true)) }
+{
+    match multiline {
+        true => fed_char(c, rest),
+        false => blanked_char(c, rest),
+    }
+}
+
 /// The bytes of what comes into a line for a paste.
-pub(crate) fn pasted_len(text: &str) -> usize
-    ensures { result ≡ size (pasted_part (chars text.now)) }
+pub(crate) fn pasted_len(multiline: bool, text: &str) -> usize
+    ensures { result ≡ size (pasted_part multiline (chars text.now)) }
 {
     let mut len = 0usize;
     let mut rest = text;
     while let Some((c, back)) = split_first(rest) {
-        if let Some(shown) = pasted_char(c, back) {
+        if let Some(shown) = pasted_char(multiline, c, back) {
             len += shown.len_utf8();
         }
         rest = back;
@@ -67,15 +114,19 @@ pub(crate) fn pasted_len(text: &str) -> usize
     len
 }
 
-/// What comes into a line for a paste.
-pub(crate) fn pasted<A: Allocator>(alloc: A, text: &str) -> Result<String<A>, AllocError>
-    ensures text { IfOk result (λ new. chars (string_bytes new) ≡ pasted_part (chars text.now)) }
-    ensures shown { IfOk result (λ new. AreShown (chars (string_bytes new))) }
+/// The text that comes into a line for a paste.
+pub(crate) fn pasted<A: Allocator>(
+    alloc: A,
+    multiline: bool,
+    text: &str,
+) -> Result<String<A>, AllocError>
+    ensures text { IfOk result (λ new. chars (string_bytes new) ≡ pasted_part multiline (chars text.now)) }
+    ensures shown { IfOk result (λ new. AreRows (chars (string_bytes new))) }
 {
     let mut new = String::new(alloc);
     let mut rest = text;
     while let Some((c, back)) = split_first(rest) {
-        if let Some(shown) = pasted_char(c, back) {
+        if let Some(shown) = pasted_char(multiline, c, back) {
             new.push(shown)?;
         }
         rest = back;

@@ -4,7 +4,7 @@ ghost use Rattle.std.specs.Option.{option_map};
 ghost use Rattle.std.specs.Str.{bytes_eq, chars, IsUtf8};
 ghost use Rattle.std.specs.String.{string_bytes};
 ghost use Rattle.line_editor.specs.Seeking.{contains, wanted};
-ghost use Rattle.line_editor.specs.Shown.{AreShown};
+ghost use Rattle.line_editor.specs.Shown.{AreRows};
 ghost use Rattle.line_editor.specs.States.{begins_with_space, behind_front, other_rest};
 
 use std::alloc::{AllocError, Allocator};
@@ -61,7 +61,7 @@ pub(crate) fn utf8_len(text: &str) -> usize
     text.len()
 }
 
-/// What is before a character in a text that ends in it.
+/// The text before a character, of one that ends in it.
 fn before_char<'a>(text: &'a str, c: char) -> Option<&'a str>
     ensures { MatchOption result ((front : List ℕ) → behind_front (c ∷ front) (reverse (chars text.now)) ≡ None)
         (λ rest. (reverse (chars text.now) ≡ c ∷ reverse (chars rest.now)) × (length rest.now < length text.now)) }
@@ -77,7 +77,7 @@ fn before_char<'a>(text: &'a str, c: char) -> Option<&'a str>
     }
 }
 
-/// What is before an end in a text that ends in it.
+/// The text before an end, of one that ends in it.
 pub(crate) fn before_end<'a>(text: &'a str, end: &str) -> Option<&'a str>
     ensures { option_map (λ rest. reverse (chars rest.now)) result ≡ behind_front (reverse (chars end.now)) (reverse (chars text.now)) }
 {
@@ -93,7 +93,7 @@ pub(crate) fn before_end<'a>(text: &'a str, end: &str) -> Option<&'a str>
     Some(rest)
 }
 
-/// What is behind a character in a text that begins with it.
+/// The text behind a character, of one that begins with it.
 fn past_char<'a>(text: &'a str, c: char) -> Option<&'a str>
     ensures { MatchOption result ((front : List ℕ) → behind_front (c ∷ front) (chars text.now) ≡ None)
         (λ rest. (chars text.now ≡ c ∷ chars rest.now) × (length rest.now < length text.now)) }
@@ -109,10 +109,10 @@ fn past_char<'a>(text: &'a str, c: char) -> Option<&'a str>
     }
 }
 
-/// What is behind a front in a text that begins with it.
+/// The text behind a front, of one that begins with it.
 pub(crate) fn behind_front<'a>(text: &'a str, front: &str) -> Option<&'a str>
     ensures behind { option_map (λ rest. chars rest.now) result ≡ behind_front (chars front.now) (chars text.now) }
-    ensures shown { AreShown (chars text.now) → IfSome result (λ rest. AreShown (chars rest.now)) }
+    ensures shown { AreRows (chars text.now) → IfSome result (λ rest. AreRows (chars rest.now)) }
 {
     let mut rest = text;
     let mut wanted = front;
@@ -170,20 +170,20 @@ pub(crate) fn joined<A: Allocator>(
     front: &str,
     rest: &str,
 ) -> Result<String<A>, AllocError>
-    requires front { AreShown (chars front.now) }
-    requires rest { AreShown (chars rest.now) }
+    requires front { AreRows (chars front.now) }
+    requires rest { AreRows (chars rest.now) }
     ensures text { IfOk result (λ new. chars (string_bytes new) ≡ chars front.now ++ chars rest.now) }
-    ensures shown { IfOk result (λ new. AreShown (chars (string_bytes new))) }
+    ensures shown { IfOk result (λ new. AreRows (chars (string_bytes new))) }
 {
     let mut new = String::from_str(alloc, front)?;
     new.push_str(rest)?;
     Ok(new)
 }
 
-/// What is behind a front in a text that begins with it, unless it is the text that is shown.
+/// The text behind a front, of one that begins with it, unless it is the text that is shown.
 pub(crate) fn other_rest<'a>(text: &'a str, front: &str, shown: &str) -> Option<&'a str>
     ensures rest { option_map (λ rest. chars rest.now) result ≡ other_rest (chars front.now) (chars shown.now) (chars text.now) }
-    ensures shown { AreShown (chars text.now) → IfSome result (λ rest. AreShown (chars rest.now)) }
+    ensures shown { AreRows (chars text.now) → IfSome result (λ rest. AreRows (chars rest.now)) }
 {
     if is_same(text, shown) {
         return None;

@@ -1,4 +1,4 @@
-//! What an editor makes of events.
+//! Events, as an editor takes them.
 ghost use Rattle.std.specs.Prelude.{◌≡◌, ◌++◌, true, false, map, IfErr, IfOk, OnOk, OnErr};
 ghost use Rattle.crossterm_types.specs.Seen.{seen_event};
 ghost use Rattle.line_editor.specs.declared.fault.EditFault.TheVariants.{TooLong};
@@ -20,7 +20,7 @@ use crate::texts::is_nothing;
 use crossterm_types::event::Event;
 use std::alloc::Allocator;
 
-/// What comes of a key that may only ring.
+/// The outcome of a key that may only ring.
 fn ring_if<A: Allocator>(rings: bool) -> Outcome<A>
     ensures { seen_outcome result ≡ ring_if rings }
 {

@@ -1,4 +1,4 @@
-//! What of a line is seen in one row.
+//! The part of a line that is seen in one row.
 ghost use Rattle.std.specs.Prelude.{◌≡◌, ◌<◌, ◌≤◌, ◌-◌, ℕ, length};
 ghost use Rattle.std.specs.Str.{chars, IsCharBoundary};
 ghost use Rattle.unicode_segmentation.specs.Segments.{chars_before, chars_from};
@@ -9,7 +9,7 @@ use crate::places::{char_after, char_before, is_between};
 use unicode_width::UnicodeWidthChar;
 
 /// The columns that a character takes.
-fn columns_of(c: char) -> usize
+pub(crate) fn columns_of(c: char) -> usize
     ensures value { result ≡ columns_of c }
     ensures few { result ≤ 3 }
 {

@@ -1,4 +1,4 @@
-//! What an editor does with words and with the white space between them.
+//! Edits of words, and of the white space between them.
 ghost use Rattle.std.specs.Prelude.{◌≡◌, ◌≤◌, ◌++◌, nat_le, nat_lt, ◌&&◌, IfOk, MatchOption, None, Some, OnOk, OnErr, slice_range};
 ghost use Rattle.std.specs.Str.{chars, IsCharBoundary};
 ghost use Rattle.std.specs.String.{string_bytes};
@@ -8,7 +8,7 @@ ghost use Rattle.line_editor.specs.declared.places.Target.TheVariants.{Forward};
 ghost use Rattle.line_editor.specs.Bounds.{cased_more, size, taken_more};
 ghost use Rattle.line_editor.specs.Cases.{cased};
 ghost use Rattle.line_editor.specs.Edits.{cut_text, first_end, first_start, is_beside_blank, second_end, second_start};
-ghost use Rattle.line_editor.specs.Shown.{AreShown};
+ghost use Rattle.line_editor.specs.Shown.{AreRows};
 ghost use Rattle.line_editor.specs.Splits.{bytes_before, split_at};
 ghost use Rattle.line_editor.specs.States.{before_taken, case_cut, erase_blanks, is_empty, next_taken, next_word, taken, taken_to, transpose_words};
 ghost use Rattle.line_editor.specs.inside.Changes.{line_bytes};
@@ -89,7 +89,7 @@ impl<A: Allocator> Editor<A> {
     /// The word that was taken last from an accepted line.
     fn taken(&self) -> &str
         ensures text { chars result.now ≡ taken self.now }
-        ensures shown { AreShown (chars result.now) }
+        ensures shown { AreRows (chars result.now) }
     {
         match self.last {
             Last::Took(at) => self.history.last_word(at),
@@ -112,7 +112,7 @@ impl<A: Allocator> Editor<A> {
     /// The word that is taken next.
     fn next_word(&self) -> &str
         ensures text { chars result.now ≡ next_word self.now }
-        ensures shown { AreShown (chars result.now) }
+        ensures shown { AreRows (chars result.now) }
     {
         let at = self.next_taken();
         self.history.last_word(at)

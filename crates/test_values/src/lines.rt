@@ -4,7 +4,9 @@
 mod readline;
 mod readline_history;
 mod readline_words;
+mod rows;
 mod rustyline;
+mod rustyline_rows;
 
 use crossterm_types::event::{Event, KeyCode, KeyEvent, KeyModifiers};
 use line_editor::{Action, Case, EditFault, Editor, Limits, Line, Outcome, Stop, Target};
@@ -447,7 +449,8 @@ fn key_of(word: &str) -> Option<Key> {
         "SP" => KeyCode::Char(' '),
         "BS" | "A-BS" => KeyCode::Backspace,
         "Del" => KeyCode::Delete,
-        "Enter" => KeyCode::Enter,
+        "Enter" | "A-Enter" => KeyCode::Enter,
+        "Esc" => KeyCode::Esc,
         "Home" => KeyCode::Home,
         "End" => KeyCode::End,
         "Left" => KeyCode::Left,
@@ -586,6 +589,9 @@ fn action_of(edit: &str) -> Option<Action> {
         "L" => Some(Action::CaseWord(Case::Lower)),
         "C" => Some(Action::CaseWord(Case::Title)),
         "T" => Some(Action::TransposeWords),
+        "E" => Some(Action::Insert('\n')),
+        "^" => Some(Action::RowUp),
+        "v" => Some(Action::RowDown),
         _ => inserted(edit).map(Action::Insert),
     }
 }
@@ -620,8 +626,16 @@ fn edits_give_the_lines_of_rustyline(rt: HostRuntime) {
     expect!(rt; count == 476);
 }
 
+/// Limits by which lines have several rows.
+fn multiline() -> Limits {
+    Limits {
+        multiline: true,
+        ..Limits::default()
+    }
+}
+
 /// All actions that may need memory, in an order in which each has something to do.
-static ACTIONS: [Action; 32] = [
+static ACTIONS: [Action; 37] = [
     Action::Older,
     Action::Newer,
     Action::Insert('o'),
@@ -654,6 +668,11 @@ static ACTIONS: [Action; 32] = [
     Action::Newer,
     Action::Older,
     Action::Undo,
+    Action::Insert('\n'),
+    Action::Insert('y'),
+    Action::RowUp,
+    Action::RowDown,
+    Action::RowDown,
 ];
 
 /// The keys of incremental searches, in an order in which each has something to do.
@@ -708,7 +727,7 @@ fn came_of_key(editor: &mut Editor<&LocalHeap>, key: &Key) -> Came {
 
 /// What comes of all actions, and of accepting the line and of the history's text.
 fn came_of_all(heap: &LocalHeap) -> Result<Came, EditFault> {
-    let mut editor = Editor::new(heap, Limits::default())?;
+    let mut editor = Editor::new(heap, multiline())?;
     editor.load_history("two\n")?;
     for action in &ACTIONS {
         match came_of(&mut editor, *action) {

@@ -2,11 +2,11 @@
 use Rattle.std.specs.Prelude.{◌≡◌, ⊤, ℕ, ◌≤◌, Bool, true, false, List, [], ◌∷◌, ◌++◌, drop, encode_utf8_all, if◌then◌else◌, slice_range, take}
 use Rattle.std.specs.Str.{chars, IsCharBoundary, IsUtf8}
 use Rattle.line_editor.specs.Edits.{IsSettled}
-use Rattle.line_editor.specs.Shown.{AreShown}
+use Rattle.line_editor.specs.Shown.{AreRows}
 use Rattle.line_editor.specs.Splits.{Split, bytes_before, line_text, split_at}
 use Rattle.line_editor.specs.States.{DraftState}
 
--- What turns a text into another one, in bytes of UTF-8: `text` in place of what is between two places. The cursor is at `at` then.
+-- A change of a text into another one, in bytes of UTF-8: `text` in place of what is between two places. The cursor is at `at` then.
 pub record Splice : Type 0 where
   pub from : ℕ
   pub to : ℕ
@@ -34,7 +34,7 @@ pub record Fits (text : List ℕ) (c : Splice) : Type 0 where
   pub utf8 : IsUtf8 (spliced c text)
   pub at : IsCharBoundary (spliced c text) c.at
   pub settled : IsSettled (split_at (spliced c text) c.at)
-  pub shown : AreShown (chars (spliced c text))
+  pub shown : AreRows (chars (spliced c text))
 
 -- Each of the splices fits the text that those before it make.
 abbrev pub AllFit : List ℕ → List Splice → Type 0
@@ -68,7 +68,7 @@ abbrev pub first_ended : ℕ → List Splice → List Splice
 first_ended end [] = []
 first_ended end (c ∷ changes) = ended end c ∷ changes
 
--- What is true of a line and the changes to the others. A character that was typed last is in the newest change.
+-- The changes of a line to the others belong to it. A character that was typed last is in the newest change.
 pub record AreChanges (line : Split) (past undone : List Splice) (typing : Bool) : Type 0 where
   pub back : AllFit (line_bytes line) past
   pub forth : AllFit (line_bytes line) undone

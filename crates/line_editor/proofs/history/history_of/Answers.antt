@@ -1,10 +1,10 @@
-use Rattle.std.proofs.Common.{◌≡◌, ◌∙◌, sym, ap, rules, subst, List, take}
+use Rattle.std.proofs.Common.{◌≡◌, ◌∙◌, sym, ap, rules, subst, List, ◌++◌, take}
 use Rattle.std.proofs.lemmas.Bool.{eqb-true}
 use Rattle.std.proofs.lemmas.List.{nil_from_length}
 use Rattle.std.proofs.lemmas.Str.{chars-nil}
 use Rattle.std.specs.Str.{chars}
 use Rattle.line_editor.specs.Splits.{Split}
-use Rattle.line_editor.proofs.Loading.{loads, loads_step, with_line-short}
+use Rattle.line_editor.proofs.Loading.{kept-nothing, loads, loads_step, with_line-short}
 use Rattle.line_editor.proofs.history.history_of.Goals as goal
 
 pub loop-rest-preserved : goal.loop-rest-preserved
@@ -22,4 +22,5 @@ loop-rest-preserved g c =
 pub returns : goal.returns
 returns g c =
     let none = nil_from_length c.loop-rest.rest.now (eqb-true _ _ (sym c.loop-rest-test.ensures)) in
-    sym (c.loop-rest.invariant.same ∙ ap (loads c.args.limits c.loop-rest.history) (ap chars none ∙ chars-nil) ∙ c.loop-rest.invariant.short)
+    sym (c.loop-rest.invariant.same ∙ ap (loads c.args.limits c.loop-rest.history) (ap chars none ∙ chars-nil)
+    ∙ ap (λ t. take c.args.limits.lines (t ++ c.loop-rest.history)) (kept-nothing c.args.limits) ∙ c.loop-rest.invariant.short)

@@ -1,4 +1,4 @@
-use Rattle.std.proofs.Common.{◌∙◌, length, ap, refl, sym}
+use Rattle.std.proofs.Common.{◌∙◌, length, ap, refl, sym, true}
 use Rattle.std.proofs.lemmas.Bool.{ltb-false}
 use Rattle.std.proofs.lemmas.Str.{chars-nil}
 use Rattle.std.specs.Str.{chars}
@@ -10,7 +10,7 @@ pub returns-in-None-clause-text : goal.returns-in-None-clause-text
 returns-in-None-clause-text g c = chars-nil ∙ kill_missed c.args.kills.now.items c.args.at (ltb-false c.args.at (length c.args.kills.now.items) (sym c.in-None.ensures.item.0))
 
 pub returns-in-None-clause-shown : goal.returns-in-None-clause-shown
-returns-in-None-clause-shown g c = shown-nothing _ refl
+returns-in-None-clause-shown g c = shown-nothing true _ refl
 
 pub returns-in-Some-clause-text : goal.returns-in-Some-clause-text
 returns-in-Some-clause-text g c =

@@ -1,4 +1,4 @@
-use Rattle.std.proofs.Common.{◌-◌, length, ap}
+use Rattle.std.proofs.Common.{◌-◌, length, ap, true}
 use Rattle.line_editor.proofs.Settling.{ahead-Placed, split_at-joined}
 use Rattle.line_editor.proofs.Showing.{shown-spliced}
 use Rattle.line_editor.proofs.lines.edited.Goals as goal
@@ -8,7 +8,7 @@ invariant_of-result g c =
     let moved = c.ahead-at.ensures in
     let whole = c.as_str-whole.result.now in
     let placed = ahead-Placed whole _ (length whole - (length c.args.text.now - c.args.to)) _ c.as_str-whole.ensures.value moved.boundary moved.first in
-    (placed.0, placed.1, shown-spliced c.args.text.now c.args.with.now _ c.args.from c.args.to c.utf8.text c.utf8.with c.requires.from c.requires.to c.requires.text c.requires.with c.in_ok-new.ensures)
+    (placed.0, placed.1, shown-spliced true c.args.text.now c.args.with.now _ c.args.from c.args.to c.utf8.text c.utf8.with c.requires.from c.requires.to c.requires.text c.requires.with c.in_ok-new.ensures)
 
 pub returns : goal.returns
 returns g c =

@@ -9,7 +9,7 @@ use Rattle.line_editor.proofs.shown.pasted_len.Given as goal
 abbrev pub invariant-loop-c : goal.invariant-loop-c
 invariant-loop-c l = record {
   utf8 : shadow (Utf8 l.rest);
-  same : size (pasted_part (chars l.fn.text)) ≡ l.len + size (pasted_part (chars l.rest));
+  same : size (pasted_part l.multiline (chars l.fn.text)) ≡ l.len + size (pasted_part l.multiline (chars l.rest));
 }
 
 abbrev pub decreases-loop-c : goal.decreases-loop-c

@@ -1,4 +1,4 @@
-use Rattle.std.proofs.Common.{◌++◌, ◌∙◌, ap}
+use Rattle.std.proofs.Common.{◌++◌, ◌∙◌, ap, true}
 use Rattle.std.proofs.lemmas.Str.{chars-append}
 use Rattle.std.specs.Str.{chars}
 use Rattle.line_editor.proofs.Showing.{shown-both}
@@ -10,5 +10,5 @@ returns-clause-text g c =
 
 pub returns-clause-shown : goal.returns-clause-shown
 returns-clause-shown g c =
-    shown-both c.args.front.now c.args.rest.now _ c.utf8.front c.requires.front c.requires.rest
+    shown-both true c.args.front.now c.args.rest.now _ c.utf8.front c.requires.front c.requires.rest
     (c.in_ok-push_str.ensures.bytes ∙ ap (λ t. t ++ c.args.rest.now) c.in_ok-new.ensures.ok)

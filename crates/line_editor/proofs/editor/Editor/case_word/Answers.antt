@@ -1,10 +1,10 @@
-use Rattle.std.proofs.Common.{◌≡◌, ◌∙◌, List, ℕ, ap, subst, sym}
+use Rattle.std.proofs.Common.{◌≡◌, ◌∙◌, List, ℕ, ap, subst, sym, true}
 use Rattle.std.specs.Str.{chars, IsCharBoundary}
 use Rattle.line_editor.specs.declared.places.Stop.TheVariants.{WordEnd}
 use Rattle.line_editor.specs.declared.places.Target.TheVariants.{Forward}
 use Rattle.line_editor.specs.Cases.{cased}
 use Rattle.line_editor.specs.Places.{target_place}
-use Rattle.line_editor.specs.Shown.{AreShown}
+use Rattle.line_editor.specs.Shown.{AreRows}
 use Rattle.line_editor.specs.Splits.{split_at}
 use Rattle.line_editor.specs.States.{EditorState}
 use Rattle.line_editor.specs.inside.Changes.{line_bytes}
@@ -25,7 +25,7 @@ replace-requires-clause-to g c =
 
 pub replace-requires-clause-with : goal.replace-requires-clause-with
 replace-requires-clause-with g c =
-    subst AreShown (sym (ap chars c.as_str.ensures.value ∙ c.in_ok-text.ensures)) (cased-shown c.args.case (chars c.cut-word.result.now) c.cut-word.ensures.shown)
+    subst AreRows (sym (ap chars c.as_str.ensures.value ∙ c.in_ok-text.ensures)) (cased-shown true c.args.case (chars c.cut-word.result.now) c.cut-word.ensures.shown)
 
 pub returns-clause-ok : goal.returns-clause-ok
 returns-clause-ok g c =

@@ -1,4 +1,4 @@
-use Rattle.std.proofs.Common.{◌∙◌, [], List, ℕ, ap, refl, subst, sym}
+use Rattle.std.proofs.Common.{◌∙◌, [], List, ℕ, ap, refl, subst, sym, true}
 use Rattle.std.specs.Str.{chars, IsCharBoundary}
 use Rattle.line_editor.specs.Edits.{line_with}
 use Rattle.line_editor.specs.Splits.{split_at}
@@ -30,7 +30,7 @@ replace-requires-clause-to g c =
     subst P (text-bytes c.text-text.result.now c.line-line.result.now c.text-text.utf8 c.text-text.ensures.text ∙ ap line_bytes c.line-line.ensures) c.unblanked_behind-to.ensures.boundary
 
 pub replace-requires-clause-with : goal.replace-requires-clause-with
-replace-requires-clause-with g c = shown-nothing _ refl
+replace-requires-clause-with g c = shown-nothing true _ refl
 
 pub returns-clause-ok : goal.returns-clause-ok
 returns-clause-ok g c =

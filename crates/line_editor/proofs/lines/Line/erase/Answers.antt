@@ -1,4 +1,4 @@
-use Rattle.std.proofs.Common.{◌≡◌, ◌∙◌, List, [], ℕ, ap, refl, subst, sym}
+use Rattle.std.proofs.Common.{◌≡◌, ◌∙◌, List, [], ℕ, ap, refl, subst, sym, true}
 use Rattle.std.proofs.lemmas.Str.{IsUtf8-string_bytes}
 use Rattle.std.specs.Prelude.{OnOk}
 use Rattle.std.specs.Str.{IsCharBoundary, chars}
@@ -23,7 +23,7 @@ splice-requires-clause-to g c =
     subst P same c.reach-from.ensures.to
 
 pub splice-requires-clause-with : goal.splice-requires-clause-with
-splice-requires-clause-with g c = shown-nothing _ refl
+splice-requires-clause-with g c = shown-nothing true _ refl
 
 pub returns-clause-ok : goal.returns-clause-ok
 returns-clause-ok g c =

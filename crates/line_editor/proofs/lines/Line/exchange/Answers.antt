@@ -1,4 +1,4 @@
-use Rattle.std.proofs.Common.{◌≡◌, ◌++◌, List, ℕ, slice_range, subst, sym, ap, ◌∙◌}
+use Rattle.std.proofs.Common.{◌≡◌, ◌++◌, List, ℕ, slice_range, subst, sym, ap, ◌∙◌, true}
 use Rattle.std.proofs.lemmas.Str.{IsUtf8-string_bytes}
 use Rattle.std.specs.Prelude.{OnOk}
 use Rattle.std.specs.Str.{IsCharBoundary, chars}
@@ -26,13 +26,13 @@ pub splice-requires-clause-with : goal.splice-requires-clause-with
 splice-requires-clause-with g c =
     let text = c.as_str-text.result.now in
     let u = c.as_str-text.utf8 in
-    let all = shown-same text _ c.as_str-text.ensures.value c.self.invariant.2 in
+    let all = shown-same true text _ c.as_str-text.ensures.value c.self.invariant.2 in
     let middle = c.meeting-middle.ensures in
     let from = c.place_of-from.ensures in
     let to = c.place_of-to.ensures in
-    let first = shown-part text u all _ _ middle.boundary to.boundary (to.on (search)) c.range.result.now c.range.ensures.value in
-    let second = shown-part text u all _ _ from.boundary middle.boundary (from.back (search)) c.range-2.result.now c.range-2.ensures.value in
-    shown-both c.range.result.now c.range-2.result.now c.as_str.result.now c.range.utf8 first second
+    let first = shown-part true text u all _ _ middle.boundary to.boundary (to.on (search)) c.range.result.now c.range.ensures.value in
+    let second = shown-part true text u all _ _ from.boundary middle.boundary (from.back (search)) c.range-2.result.now c.range-2.ensures.value in
+    shown-both true c.range.result.now c.range-2.result.now c.as_str.result.now c.range.utf8 first second
     (c.as_str.ensures.value ∙ c.in_ok-push_str.ensures.bytes ∙ ap (λ t. t ++ c.range-2.result.now) c.in_ok-with.ensures.ok)
 
 pub returns-clause-ok : goal.returns-clause-ok

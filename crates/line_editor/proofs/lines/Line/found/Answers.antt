@@ -1,4 +1,4 @@
-use Rattle.std.proofs.Common.{◌≡◌, refl, subst}
+use Rattle.std.proofs.Common.{◌≡◌, refl, subst, true}
 use Rattle.std.specs.Prelude.{IfOk}
 use Rattle.std.specs.Str.{chars}
 use Rattle.std.proofs.lemmas.Str.{chars-nil}
@@ -8,7 +8,7 @@ use Rattle.line_editor.proofs.Showing.{shown-nothing}
 use Rattle.line_editor.proofs.lines.Line.found.Goals as goal
 
 pub of_parts-requires-clause-after : goal.of_parts-requires-clause-after
-of_parts-requires-clause-after g c = shown-nothing _ refl
+of_parts-requires-clause-after g c = shown-nothing true _ refl
 
 pub returns-then-is_nothing : goal.returns-then-is_nothing
 returns-then-is_nothing g c =

@@ -1,4 +1,4 @@
-use Rattle.std.proofs.Common.{◌∙◌, ◌-◌, List, ℕ, ap, arith, length, subst, sym}
+use Rattle.std.proofs.Common.{◌∙◌, ◌-◌, List, ℕ, ap, arith, length, subst, sym, true}
 use Rattle.std.proofs.lemmas.Str.{IsUtf8-string_bytes}
 use Rattle.std.specs.Str.{IsCharBoundary, chars}
 use Rattle.std.specs.String.{string_bytes}
@@ -35,7 +35,7 @@ invariant_of-self-2 g c =
     let placed = ahead-Placed _ _ _ _ c.as_str-whole-2.ensures.value moved.boundary moved.first in (
       placed.0,
       placed.1,
-      shown-spliced (string_bytes c.self.inside.text) c.args.with.now _ c.args.from c.args.to (IsUtf8-string_bytes c.self.inside.text) c.utf8.with
+      shown-spliced true (string_bytes c.self.inside.text) c.args.with.now _ c.args.from c.args.to (IsUtf8-string_bytes c.self.inside.text) c.utf8.with
           (boundary-here (string_bytes c.self.inside.text) c.self.inside.at c.args.self.now (IsUtf8-string_bytes c.self.inside.text) c.self.invariant.0 c.self.view_is c.args.from c.requires.from) (boundary-here (string_bytes c.self.inside.text) c.self.inside.at c.args.self.now (IsUtf8-string_bytes c.self.inside.text) c.self.invariant.0 c.self.view_is c.args.to c.requires.to) c.self.invariant.2 c.requires.with c.in_ok-removed.ensures.ok,
     )
 

@@ -3,7 +3,7 @@ use Rattle.std.proofs.lemmas.Str.{IsUtf8-string_bytes}
 use Rattle.std.specs.Str.{chars, IsCharBoundary}
 use Rattle.std.specs.String.{string_bytes}
 use Rattle.line_editor.specs.Edits.{IsSettled}
-use Rattle.line_editor.specs.Shown.{AreShown}
+use Rattle.line_editor.specs.Shown.{AreRows}
 use Rattle.line_editor.specs.Splits.{split_at}
 use Rattle.line_editor.proofs.Changing.{Fits-here, line_bytes-split, done-here, takes_back}
 use Rattle.line_editor.proofs.lines.Line.take_back.Goals as goal
@@ -38,7 +38,7 @@ invariant_of-self-2 g c =
     let fits = Fits-here (string_bytes c.self.inside.text) c.self.inside.at c.args.self.now (IsUtf8-string_bytes c.self.inside.text) c.self.invariant.0 c.self.view_is
     _ c.args.change.now c.change.view_is c.requires in
     let at = c.change.inside.at in
-    let P : List ℕ → Type 0 = λ t. IsCharBoundary t at × IsSettled (split_at t at) × AreShown (chars t) in
+    let P : List ℕ → Type 0 = λ t. IsCharBoundary t at × IsSettled (split_at t at) × AreRows (chars t) in
     let text = string_bytes c.self.inside.text in
     let made = c.in_ok-removed.ensures.ok ∙ ap (λ t. (take c.change.inside.from text ++ t) ++ drop c.change.inside.to text) c.as_str-with.ensures.value in
     subst P (sym made) (fits.at, fits.settled, fits.shown)

@@ -1,4 +1,4 @@
-use Rattle.std.proofs.Common.{length, refl, sym, ap, ◌∙◌}
+use Rattle.std.proofs.Common.{length, refl, sym, ap, ◌∙◌, true}
 use Rattle.std.proofs.lemmas.Bool.{ltb-false}
 use Rattle.std.proofs.lemmas.Str.{chars-nil}
 use Rattle.std.specs.Prelude.{slice_get}
@@ -13,7 +13,7 @@ returns-in-None-clause-text g c =
     chars-nil ∙ word_missed lines c.args.at (ltb-false c.args.at (length lines) (sym c.in-None.ensures.item.0)) ∙ ap (λ l. last_word_of (slice_get l c.args.at)) c.self.view_is
 
 pub returns-in-None-clause-shown : goal.returns-in-None-clause-shown
-returns-in-None-clause-shown g c = shown-nothing _ refl
+returns-in-None-clause-shown g c = shown-nothing true _ refl
 
 pub returns-in-Some-clause-text : goal.returns-in-Some-clause-text
 returns-in-Some-clause-text g c =

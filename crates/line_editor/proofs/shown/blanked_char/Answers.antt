@@ -1,7 +1,7 @@
 use Rattle.std.proofs.Common.{sym, ◌∙◌}
 use Rattle.std.specs.Str.{chars}
 use Rattle.line_editor.proofs.Showing.{pasted-blank}
-use Rattle.line_editor.proofs.shown.pasted_char.Goals as goal
+use Rattle.line_editor.proofs.shown.blanked_char.Goals as goal
 
 pub returns-then-begins_behind_gap : goal.returns-then-begins_behind_gap
 returns-then-begins_behind_gap c =
