@@ -4,3 +4,7 @@ pub mod Completing
 pub mod Naming
 pub mod Lines
 pub mod Columns
+pub mod Showing
+pub mod Drawn
+pub mod Sending
+pub mod Querying

@@ -4,4 +4,6 @@ pub mod Completing
 pub mod Asking
 pub mod Lines
 pub mod Drawing
+pub mod Frames
+pub mod Written
 pub mod inside

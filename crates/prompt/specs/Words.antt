@@ -21,3 +21,8 @@ rest_among text (name ∷ names) = rest_or (rest_of text name.now) (rest_among t
 abbrev pub first_rest : List ℕ → List (Bor (List ℕ)) → Option (List ℕ)
 first_rest [] names = None
 first_rest (b ∷ text) names = rest_among (b ∷ text) names
+
+-- A rest if there is one, otherwise nothing.
+abbrev pub or_nothing : Option (List ℕ) → List ℕ
+or_nothing None = []
+or_nothing (Some rest) = rest

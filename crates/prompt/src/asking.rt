@@ -1,17 +1,20 @@
 //! Asks for a line, an event at a time.
-ghost use Rattle.std.specs.Prelude.{◌≡◌, ◌<◌, ◌⊎◌, chars, true, false, IfErr, IfOk, IsErrAnd, IsOk, IsTrue, None, OnErr, OnOk, Some, is_some};
+ghost use Rattle.std.specs.Prelude.{◌≡◌, ◌<◌, [], ℕ, chars, true, false, IfErr, IfOk, IsErrAnd, IsTrue, List, None, OnErr, OnOk, Option, Some, is_some};
 ghost use Rattle.std.specs.IoError.{error_kind};
 ghost use Rattle.std.specs.declared.io.ErrorKind.TheVariants.{InvalidInput};
-ghost use Rattle.crossterm_types.specs.Seen.{Paste, seen_event};
+ghost use Rattle.crossterm_types.specs.Seen.{Paste, Seen, seen_event};
 ghost use Rattle.crossterm_read.specs.History.{Known};
 ghost use Rattle.crossterm_read.specs.PassViews.{knows};
+ghost use Rattle.line_editor.specs.Seeking.{is_ahead};
 ghost use Rattle.line_editor.specs.States.{EditorState};
 ghost use Rattle.prompt.specs.Asking.{LineEnds, StopsAsking, GoesOn, answer_seen};
 ghost use Rattle.prompt.specs.Completing as completing;
 ghost use Rattle.prompt.specs.Completing.{as_read, given_by};
 ghost use Rattle.prompt.specs.Prompts as prompts;
-ghost use Rattle.prompt.specs.Drawing.{IsDrawn};
-ghost use Rattle.prompt.specs.inside.Turning.{IsTaken, Leads, MayAsk};
+ghost use Rattle.prompt.specs.Frames.{Draws, DrawsFront, area};
+ghost use Rattle.prompt.specs.Written as written;
+ghost use Rattle.prompt.specs.Written.{Clears, Due, GoesOnShown, HasWritten, HasWrittenFront, LineEndsShown, Resized, Shows, StopsShown, hint_for, look_of, prompt_for, prompt_or};
+ghost use Rattle.prompt.specs.inside.Turning.{IsTaken, Leads, LeadsShown, MayAsk, MayQuery, stage_after};
 
 use crate::drawing::{Row, erase, ring};
 use crate::helpers::Helper;
@@ -21,6 +24,7 @@ use crossterm::event::source::EventSource;
 use crossterm::event::timeout::Clock;
 use crossterm::event::{Event, KeyCode, KeyEventKind};
 use crossterm::terminal::ModeDevice;
+use crossterm_command::write_text;
 use line_editor::{EditFault, Editor, Outcome};
 use own_terminal::Session;
 use std::alloc::{Allocator, Global};
@@ -72,7 +76,8 @@ impl<'a> Prompt<'a, ()> {
     /// let prompt = Prompt::new("Name: ");
     /// ```
     pub fn new(text: &'a str) -> Prompt<'a, ()>
-        ensures { result.text.now ≡ text.now }
+        ensures text { result.text.now ≡ text.now }
+        ensures asks { result.asks ≡ true }
     {
         Prompt {
             text,
@@ -93,6 +98,7 @@ impl<'a, H> Prompt<'a, H> {
     pub fn with_helper<G>(self, helper: &'a G) -> Prompt<'a, G>
         ensures text { result.text.now ≡ self.entry.text.now }
         ensures helper { result.helper.now ≡ helper.now }
+        ensures asks { result.asks ≡ self.entry.asks }
     {
         Prompt {
             text: self.text,
@@ -110,6 +116,7 @@ impl<'a, H> Prompt<'a, H> {
     pub fn without_questions(self) -> Prompt<'a, H>
         ensures text { result.text.now ≡ self.entry.text.now }
         ensures helper { result.helper.now ≡ self.entry.helper.now }
+        ensures asks { result.asks ≡ false }
     {
         Prompt {
             text: self.text,
@@ -137,6 +144,17 @@ fn is_tab<B: Allocator>(event: &Event<B>) -> bool
         | Event::Mouse(_)
         | Event::Paste(_)
         | Event::Resize(..) => false,
+    }
+}
+
+/// Whether an event reports another size of the window.
+fn is_resize(event: &Event) -> bool
+    ensures { result ≡ written.resizes (seen_event event.now) }
+{
+    match event {
+        Event::Resize(..) => true,
+        Event::FocusGained | Event::FocusLost | Event::Key(_) | Event::Mouse(_) | Event::Paste(_) =>
+            false,
     }
 }
 
@@ -196,8 +214,11 @@ fn show_search<W: Write, A: Allocator>(
     pattern: &str,
     row: &mut Row,
 ) -> io::Result<()>
-    ensures { OnOk result (0 < row.old.strip.width
-        → IsDrawn row.new.buffer row.new.column row.old.strip row.new.strip (W.contents out.old) (W.contents out.new)) }
+    ensures shows { OnOk result (Draws (prompt_or (Some (chars pattern.now)) (is_ahead editor.now.last) []) editor.now.line []
+        (area row.old.strip row.old.has_hint) (area row.new.strip row.new.has_hint) (W.contents out.old) (W.contents out.new)) }
+    ensures stops { OnErr result (DrawsFront (prompt_or (Some (chars pattern.now)) (is_ahead editor.now.last) []) editor.now.line []
+        (area row.old.strip row.old.has_hint) (W.contents out.old) (W.contents out.new)) }
+    ensures asked { row.new.is_asked ≡ row.old.is_asked }
 {
     let text = search_text(row.alloc, pattern, editor.is_ahead())?;
     row.draw(out, text.as_str(), editor.line(), "")
@@ -210,8 +231,11 @@ fn show<W: Write, A: Allocator, H: Helper>(
     prompt: &Prompt<'_, H>,
     row: &mut Row,
 ) -> io::Result<()>
-    ensures { OnOk result (0 < row.old.strip.width
-        → IsDrawn row.new.buffer row.new.column row.old.strip row.new.strip (W.contents out.old) (W.contents out.new)) }
+    ensures shows { OnOk result (Draws (prompt_for prompt.now.text.now editor.now) editor.now.line (hint_for (H.hints prompt.now.helper.now) editor.now)
+        (area row.old.strip row.old.has_hint) (area row.new.strip row.new.has_hint) (W.contents out.old) (W.contents out.new)) }
+    ensures stops { OnErr result (DrawsFront (prompt_for prompt.now.text.now editor.now) editor.now.line (hint_for (H.hints prompt.now.helper.now) editor.now)
+        (area row.old.strip row.old.has_hint) (W.contents out.old) (W.contents out.new)) }
+    ensures asked { row.new.is_asked ≡ row.old.is_asked }
 {
     let line = editor.line();
     match editor.pattern() {
@@ -227,6 +251,10 @@ fn ask<S: EventSource<Global>, D: ModeDevice, W: Write + Drop, C: Clock + Drop, 
     row: &mut Row,
 ) -> io::Result<Option<u16>>
     ensures asked { MayAsk S.drawn S.asked (knows tty.old.pass) (knows tty.new.pass) }
+    ensures query { MayQuery row.old.is_asked (W.contents tty.old.out) (W.contents tty.new.out) }
+    ensures silent { IfOk result (λ place. row.new.is_asked ≡ is_some place) }
+    ensures fewer { row.new.is_asked ≡ true → row.old.is_asked ≡ true }
+    ensures area { (area row.new.strip row.new.has_hint) ≡ (area row.old.strip row.old.has_hint) }
     ensures features { tty.new.features ≡ tty.old.features }
     ensures mode { IsTrue (is_some tty.old.term.prior) → tty.new.term.prior ≡ tty.old.term.prior }
 {
@@ -278,6 +306,11 @@ fn show_anew<
     row: &mut Row,
 ) -> io::Result<()>
     ensures asked { MayAsk S.drawn S.asked (knows tty.old.pass) (knows tty.new.pass) }
+    ensures shows { (given : EditorState → Seen → Seen) (w : EditorState) (es : List Seen) (out : Option (List ℕ)) → (row.old.is_asked ≡ true → prompt.now.asks ≡ true)
+        → HasWritten (look_of given (H.hints prompt.now.helper.now) prompt.now.text.now prompt.now.asks) w es editor.now (Resized false) out (W.contents tty.old.out) → OnOk result (HasWritten (look_of given (H.hints prompt.now.helper.now) prompt.now.text.now prompt.now.asks) w es editor.now (Shows (area row.new.strip row.new.has_hint) false) out (W.contents tty.new.out)) }
+    ensures stops { (given : EditorState → Seen → Seen) (w : EditorState) (es : List Seen) (out : Option (List ℕ)) → (row.old.is_asked ≡ true → prompt.now.asks ≡ true)
+        → HasWritten (look_of given (H.hints prompt.now.helper.now) prompt.now.text.now prompt.now.asks) w es editor.now (Resized false) out (W.contents tty.old.out) → OnErr result (HasWrittenFront (look_of given (H.hints prompt.now.helper.now) prompt.now.text.now prompt.now.asks) w es editor.now out (W.contents tty.new.out)) }
+    ensures fewer { row.new.is_asked ≡ true → row.old.is_asked ≡ true }
     ensures features { tty.new.features ≡ tty.old.features }
     ensures mode { IsTrue (is_some tty.old.term.prior) → tty.new.term.prior ≡ tty.old.term.prior }
 {
@@ -304,8 +337,17 @@ fn show_at_top<W: Write, A: Allocator, H: Helper>(
     editor: &Editor<A>,
     prompt: &Prompt<'_, H>,
     row: &mut Row,
-) -> io::Result<()> {
-    out.write_all(Row::clearing().as_bytes())?;
+) -> io::Result<()>
+    ensures shows { (given : EditorState → Seen → Seen) (w : EditorState) (es : List Seen) (from : Option (List ℕ))
+        → HasWritten (look_of given (H.hints prompt.now.helper.now) prompt.now.text.now prompt.now.asks) w es editor.now (Clears (area row.old.strip row.old.has_hint)) from (W.contents out.old) → OnOk result (HasWritten (look_of given (H.hints prompt.now.helper.now) prompt.now.text.now prompt.now.asks) w es editor.now (Shows (area row.new.strip row.new.has_hint) false) from (W.contents out.new)) }
+    ensures stops { (given : EditorState → Seen → Seen) (w : EditorState) (es : List Seen) (from : Option (List ℕ))
+        → HasWritten (look_of given (H.hints prompt.now.helper.now) prompt.now.text.now prompt.now.asks) w es editor.now (Clears (area row.old.strip row.old.has_hint)) from (W.contents out.old) → OnErr result (HasWrittenFront (look_of given (H.hints prompt.now.helper.now) prompt.now.text.now prompt.now.asks) w es editor.now from (W.contents out.new)) }
+    ensures asked { row.new.is_asked ≡ row.old.is_asked }
+{
+    match write_text(out, Row::clearing()) {
+        Ok(()) => {}
+        Err(error) => return Err(error),
+    }
     row.forget();
     show(out, editor, prompt, row)
 }
@@ -316,9 +358,17 @@ fn show_and_ring<W: Write, A: Allocator, H: Helper>(
     editor: &Editor<A>,
     prompt: &Prompt<'_, H>,
     row: &mut Row,
-) -> io::Result<()> {
-    show(out, editor, prompt, row)?;
-    ring(out)
+) -> io::Result<()>
+    ensures shows { (given : EditorState → Seen → Seen) (w : EditorState) (es : List Seen) (from : Option (List ℕ))
+        → HasWritten (look_of given (H.hints prompt.now.helper.now) prompt.now.text.now prompt.now.asks) w es editor.now (Due (area row.old.strip row.old.has_hint) true) from (W.contents out.old) → OnOk result (HasWritten (look_of given (H.hints prompt.now.helper.now) prompt.now.text.now prompt.now.asks) w es editor.now (Shows (area row.new.strip row.new.has_hint) false) from (W.contents out.new)) }
+    ensures stops { (given : EditorState → Seen → Seen) (w : EditorState) (es : List Seen) (from : Option (List ℕ))
+        → HasWritten (look_of given (H.hints prompt.now.helper.now) prompt.now.text.now prompt.now.asks) w es editor.now (Due (area row.old.strip row.old.has_hint) true) from (W.contents out.old) → OnErr result (HasWrittenFront (look_of given (H.hints prompt.now.helper.now) prompt.now.text.now prompt.now.asks) w es editor.now from (W.contents out.new)) }
+    ensures asked { row.new.is_asked ≡ row.old.is_asked }
+{
+    match show(out, editor, prompt, row) {
+        Ok(()) => ring(out),
+        Err(error) => Err(error),
+    }
 }
 
 /// Shows the line once more after an event.
@@ -339,13 +389,18 @@ fn show_after<
     row: &mut Row,
 ) -> io::Result<()>
     ensures asked { MayAsk S.drawn S.asked (knows tty.old.pass) (knows tty.new.pass) }
+    ensures shows { (given : EditorState → Seen → Seen) (w : EditorState) (es : List Seen) (out : Option (List ℕ)) → (row.old.is_asked ≡ true → prompt.now.asks ≡ true)
+        → HasWritten (look_of given (H.hints prompt.now.helper.now) prompt.now.text.now prompt.now.asks) w es editor.now (stage_after (seen_event event.now) (area row.old.strip row.old.has_hint)) out (W.contents tty.old.out) → OnOk result (HasWritten (look_of given (H.hints prompt.now.helper.now) prompt.now.text.now prompt.now.asks) w es editor.now (Shows (area row.new.strip row.new.has_hint) false) out (W.contents tty.new.out)) }
+    ensures stops { (given : EditorState → Seen → Seen) (w : EditorState) (es : List Seen) (out : Option (List ℕ)) → (row.old.is_asked ≡ true → prompt.now.asks ≡ true)
+        → HasWritten (look_of given (H.hints prompt.now.helper.now) prompt.now.text.now prompt.now.asks) w es editor.now (stage_after (seen_event event.now) (area row.old.strip row.old.has_hint)) out (W.contents tty.old.out) → OnErr result (HasWrittenFront (look_of given (H.hints prompt.now.helper.now) prompt.now.text.now prompt.now.asks) w es editor.now out (W.contents tty.new.out)) }
+    ensures fewer { row.new.is_asked ≡ true → row.old.is_asked ≡ true }
     ensures features { tty.new.features ≡ tty.old.features }
     ensures mode { IsTrue (is_some tty.old.term.prior) → tty.new.term.prior ≡ tty.old.term.prior }
 {
-    match event {
-        Event::Resize(..) => show_anew(rt, tty, editor, prompt, row),
-        Event::FocusGained | Event::FocusLost | Event::Key(_) | Event::Mouse(_) | Event::Paste(_) =>
-            { show(&mut tty.out, editor, prompt, row) }
+    if is_resize(event) {
+        show_anew(rt, tty, editor, prompt, row)
+    } else {
+        show(&mut tty.out, editor, prompt, row)
     }
 }
 
@@ -367,6 +422,10 @@ fn take_turn<
 ) -> Turn<A>
     ensures leads { (v : Known S) (w : EditorState) → GoesOn S.drawn S.asked (given_by (H.completes prompt.now.helper.now)) v w (knows tty.old.pass) editor.old
         → Leads S.drawn S.asked (given_by (H.completes prompt.now.helper.now)) v w result (knows tty.new.pass) editor.new }
+    ensures written { (v : Known S) (w : EditorState) (out : Option (List ℕ)) → (row.old.is_asked ≡ true → prompt.now.asks ≡ true)
+        → GoesOnShown S.drawn S.asked (look_of (given_by (H.completes prompt.now.helper.now)) (H.hints prompt.now.helper.now) prompt.now.text.now prompt.now.asks) v w (knows tty.old.pass) editor.old (area row.old.strip row.old.has_hint) out (W.contents tty.old.out)
+        → LeadsShown S.drawn S.asked (look_of (given_by (H.completes prompt.now.helper.now)) (H.hints prompt.now.helper.now) prompt.now.text.now prompt.now.asks) v w result (knows tty.new.pass) editor.new (area row.new.strip row.new.has_hint) out (W.contents tty.new.out) }
+    ensures fewer { row.new.is_asked ≡ true → row.old.is_asked ≡ true }
     ensures features { tty.new.features ≡ tty.old.features }
     ensures mode { IsTrue (is_some tty.old.term.prior) → tty.new.term.prior ≡ tty.old.term.prior }
 {
@@ -392,7 +451,8 @@ fn take_turn<
             Err(error) => Turn::Failed(error),
         },
         Taken::Ended(read) => {
-            row.leave(&mut tty.out);
+            // An accepted line is returned all the same: the next write shows the fault.
+            let _ = row.leave(&mut tty.out);
             Turn::Ended(read)
         }
         Taken::Refused => Turn::Failed(io::Error::from(ErrorKind::OutOfMemory)),
@@ -430,6 +490,9 @@ fn begin<
     H: Helper,
 >(tty: &mut Session<S, D, W, C>, editor: &Editor<A>, prompt: &Prompt<'_, H>) -> io::Result<Row>
     ensures pass { tty.new.pass ≡ tty.old.pass }
+    ensures shows { IfOk result (λ row. (given : EditorState → Seen → Seen) → HasWritten (look_of given (H.hints prompt.now.helper.now) prompt.now.text.now prompt.now.asks) editor.now [] editor.now (Shows (area row.strip row.has_hint) false) (W.contents tty.old.out) (W.contents tty.new.out)) }
+    ensures stops { OnErr result ((given : EditorState → Seen → Seen) → HasWrittenFront (look_of given (H.hints prompt.now.helper.now) prompt.now.text.now prompt.now.asks) editor.now [] editor.now (W.contents tty.old.out) (W.contents tty.new.out)) }
+    ensures asks { IfOk result (λ row. row.is_asked ≡ prompt.now.asks) }
     ensures features { tty.new.features ≡ tty.old.features }
     ensures already { IsTrue (is_some tty.old.term.prior) → tty.new.term.prior ≡ tty.old.term.prior }
     ensures raw { OnOk result (tty.old.term.prior ≡ None → tty.new.term.prior ≡ Some (D.current tty.old.term.device)) }
@@ -468,6 +531,10 @@ fn go_on<
 ) -> io::Result<Read<A>>
     ensures line { IfOk result (λ read. LineEnds S.drawn S.asked (given_by (H.completes prompt.now.helper.now)) (knows tty.old.pass) editor.old (answer_seen read) (knows tty.new.pass) editor.new) }
     ensures err { IfErr result (λ error. StopsAsking S.drawn S.asked (given_by (H.completes prompt.now.helper.now)) (knows tty.old.pass) editor.old (error_kind error) (knows tty.new.pass) editor.new) }
+    ensures written { IfOk result (λ read. (out : Option (List ℕ)) → (row.is_asked ≡ true → prompt.now.asks ≡ true) → HasWritten (look_of (given_by (H.completes prompt.now.helper.now)) (H.hints prompt.now.helper.now) prompt.now.text.now prompt.now.asks) editor.old [] editor.old (Shows (area row.strip row.has_hint) false) out (W.contents tty.old.out)
+        → LineEndsShown S.drawn S.asked (look_of (given_by (H.completes prompt.now.helper.now)) (H.hints prompt.now.helper.now) prompt.now.text.now prompt.now.asks) (knows tty.old.pass) editor.old (answer_seen read) (knows tty.new.pass) editor.new out (W.contents tty.new.out)) }
+    ensures cut { IfErr result (λ error. (out : Option (List ℕ)) → (row.is_asked ≡ true → prompt.now.asks ≡ true) → HasWritten (look_of (given_by (H.completes prompt.now.helper.now)) (H.hints prompt.now.helper.now) prompt.now.text.now prompt.now.asks) editor.old [] editor.old (Shows (area row.strip row.has_hint) false) out (W.contents tty.old.out)
+        → StopsShown S.drawn S.asked (look_of (given_by (H.completes prompt.now.helper.now)) (H.hints prompt.now.helper.now) prompt.now.text.now prompt.now.asks) (knows tty.old.pass) editor.old (error_kind error) (knows tty.new.pass) editor.new out (W.contents tty.new.out)) }
     ensures features { tty.new.features ≡ tty.old.features }
     ensures mode { IsTrue (is_some tty.old.term.prior) → tty.new.term.prior ≡ tty.old.term.prior }
 {
@@ -491,6 +558,9 @@ impl<H: Helper> Prompt<'_, H> {
     /// At Tab without a modifier the helper's text is pasted, if it has one for the line. Its hint is shown behind the line. Ctrl-L clears the
     /// window, and the line goes on at its top (`clear-screen`): so a row that another program wrote over is whole again. While an incremental
     /// search goes on, what it looks for is shown in the prompt's place, and the bell rings at what isn't found.
+    ///
+    /// So a frame of the line is written first, and one after each event. Nothing else is but the bell, a clearing, what a resize needs, and at
+    /// last what leaves the row.
     ///
     /// The editor may hold an unfinished line, and then that line goes on. In a window that is too narrow for both, the prompt is left out. If
     /// `Feature::BracketedPaste` is on, a paste is one event; else an Enter in a paste accepts the line.
@@ -523,6 +593,8 @@ impl<H: Helper> Prompt<'_, H> {
     >(&self, rt: &R, tty: &mut Session<S, D, W, C>, editor: &mut Editor<A>) -> io::Result<Read<A>>
         ensures line { IfOk result (λ read. LineEnds S.drawn S.asked (given_by (H.completes self.now.helper.now)) (knows tty.old.pass) editor.old (answer_seen read) (knows tty.new.pass) editor.new) }
         ensures err { IfErr result (λ error. StopsAsking S.drawn S.asked (given_by (H.completes self.now.helper.now)) (knows tty.old.pass) editor.old (error_kind error) (knows tty.new.pass) editor.new) }
+        ensures written { IfOk result (λ read. LineEndsShown S.drawn S.asked (look_of (given_by (H.completes self.now.helper.now)) (H.hints self.now.helper.now) self.now.text.now self.now.asks) (knows tty.old.pass) editor.old (answer_seen read) (knows tty.new.pass) editor.new (W.contents tty.old.out) (W.contents tty.new.out)) }
+        ensures cut { IfErr result (λ error. StopsShown S.drawn S.asked (look_of (given_by (H.completes self.now.helper.now)) (H.hints self.now.helper.now) self.now.text.now self.now.asks) (knows tty.old.pass) editor.old (error_kind error) (knows tty.new.pass) editor.new (W.contents tty.old.out) (W.contents tty.new.out)) }
         ensures refused { prompts.has_control (chars self.now.text.now) ≡ true → IsErrAnd result (λ error. error_kind error ≡ InvalidInput) × (tty.new ≡ tty.old) × (editor.new ≡ editor.old) }
         ensures allowed { OnOk result (prompts.has_control (chars self.now.text.now) ≡ false) }
         ensures features { tty.new.features ≡ tty.old.features }
@@ -566,6 +638,8 @@ pub fn read_line<
 ) -> io::Result<Read<A>>
     ensures line { IfOk result (λ read. LineEnds S.drawn S.asked as_read (knows tty.old.pass) editor.old (answer_seen read) (knows tty.new.pass) editor.new) }
     ensures err { IfErr result (λ error. StopsAsking S.drawn S.asked as_read (knows tty.old.pass) editor.old (error_kind error) (knows tty.new.pass) editor.new) }
+    ensures written { IfOk result (λ read. LineEndsShown S.drawn S.asked (look_of as_read (λ _. []) prompt.now true) (knows tty.old.pass) editor.old (answer_seen read) (knows tty.new.pass) editor.new (W.contents tty.old.out) (W.contents tty.new.out)) }
+    ensures cut { IfErr result (λ error. StopsShown S.drawn S.asked (look_of as_read (λ _. []) prompt.now true) (knows tty.old.pass) editor.old (error_kind error) (knows tty.new.pass) editor.new (W.contents tty.old.out) (W.contents tty.new.out)) }
     ensures refused { prompts.has_control (chars prompt.now) ≡ true → IsErrAnd result (λ error. error_kind error ≡ InvalidInput) × (tty.new ≡ tty.old) × (editor.new ≡ editor.old) }
     ensures allowed { OnOk result (prompts.has_control (chars prompt.now) ≡ false) }
     ensures features { tty.new.features ≡ tty.old.features }

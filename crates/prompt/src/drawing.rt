@@ -1,18 +1,24 @@
 //! How a line is shown in the cursor's row.
-ghost use Rattle.std.specs.Prelude.{◌≡◌, ◌-◌, ◌<◌, IfOk, OnOk, chars, false};
-ghost use Rattle.std.specs.Io.KnownBytes.{Keeps};
+ghost use Rattle.std.specs.Prelude.{◌≡◌, ◌-◌, ◌<◌, IfOk, IfSome, OnErr, OnOk, chars, false};
+ghost use Rattle.std.specs.Io.KnownBytes.{Appends, Keeps};
 ghost use Rattle.screen.specs.Strips.{without_row};
+ghost use Rattle.crossterm_command.specs.Writing.{AppendsFront};
+ghost use Rattle.crossterm_command.specs.declared.color_output.ColorOutput.TheVariants.{Enabled};
 ghost use Rattle.prompt.specs.Drawing.{IsCursor, IsDrawn, IsUnknown, clearing, column_behind, inside, leaving};
+ghost use Rattle.prompt.specs.Frames.{Draws, DrawsFront, IsHinted, area, bell, erasure};
 
 use crate::prompts::{parted, shown, shown_hint};
+use arrayvec::ArrayString;
+use crossterm::Command;
 use crossterm::cursor::{MoveToColumn, MoveUp};
-use crossterm::style::{Attribute, Attributes, ColorOutput, ContentStyle, Print};
+use crossterm::style::{Attribute, Attributes, ColorOutput, ContentStyle};
 use crossterm::terminal::{Clear, ClearType};
-use crossterm::{QueueableCommand, execute, queue};
+use crossterm_command::write_text;
 use line_editor::Line;
 use screen::{Buffer, CellFault, Strip};
 use std::alloc::{AllocError, Allocator, Global};
-use std::io::{self, Write};
+use std::fmt;
+use std::io::{self, ErrorKind, Write};
 use unicode_width::UnicodeWidthChar;
 
 const COLORS: ColorOutput = ColorOutput::Enabled;
@@ -99,7 +105,8 @@ impl Row {
 
     /// Takes the columns of another window. Nothing is known of the row then.
     pub(crate) fn resize(&mut self, columns: u16) -> Result<(), AllocError>
-        ensures { OnOk result (IsUnknown columns self.new.strip) }
+        ensures unknown { OnOk result (IsUnknown columns self.new.strip) }
+        ensures asked { self.new.is_asked ≡ self.old.is_asked }
     {
         let width = drawn_columns(columns);
         self.strip.resize(width)?;
@@ -122,6 +129,7 @@ impl Row {
     fn print(&mut self, column: u16, text: &str, style: ContentStyle) -> Result<u16, CellFault>
         ensures strip { self.new.strip ≡ self.old.strip }
         ensures width { self.new.buffer.width ≡ self.old.buffer.width }
+        ensures asked { self.new.is_asked ≡ self.old.is_asked }
         ensures behind { IfOk result (λ end. end ≡ column_behind self.old.buffer.width column (chars text.now)) }
     {
         let used = self
@@ -141,8 +149,10 @@ impl Row {
         columns: u16,
     ) -> Result<bool, CellFault>
         ensures strip { self.new.strip ≡ self.old.strip }
+        ensures asked { self.new.is_asked ≡ self.old.is_asked }
         ensures width { OnOk result (self.new.buffer.width ≡ self.old.buffer.width) }
         ensures cursor { OnOk result (IsCursor self.old.buffer.width prompt.now line.now self.new.column) }
+        ensures hinted { OnOk result (IsHinted hint.now self.new.has_hint) }
     {
         let width = self.buffer.width();
         self.buffer.fill(' ', ContentStyle::new())?;
@@ -171,7 +181,10 @@ impl Row {
         hint: &str,
     ) -> Result<(), CellFault>
         ensures strip { self.new.strip ≡ self.old.strip }
+        ensures asked { self.new.is_asked ≡ self.old.is_asked }
+        ensures width { OnOk result (self.new.buffer.width ≡ self.old.buffer.width) }
         ensures cursor { OnOk result (IsCursor self.old.buffer.width prompt.now line.now self.new.column) }
+        ensures hinted { OnOk result (IsHinted hint.now self.new.has_hint) }
     {
         let width = self.strip.width();
         if self.fill(prompt, line, hint, width)? {
@@ -208,6 +221,10 @@ impl Row {
         ensures cursor { OnOk result (0 < self.old.strip.width → IsCursor self.old.buffer.width prompt.now line.now self.new.column) }
         ensures narrow { self.old.strip.width ≡ 0 → Keeps (W.contents out.old) (W.contents out.new) }
         ensures width { self.new.strip.width ≡ self.old.strip.width }
+        ensures shows { OnOk result (Draws prompt.now line.now hint.now (area self.old.strip self.old.has_hint) (area self.new.strip self.new.has_hint)
+            (W.contents out.old) (W.contents out.new)) }
+        ensures stops { OnErr result (DrawsFront prompt.now line.now hint.now (area self.old.strip self.old.has_hint) (W.contents out.old) (W.contents out.new)) }
+        ensures asked { self.new.is_asked ≡ self.old.is_asked }
     {
         if self.strip.width() == 0 {
             return out.flush();
@@ -258,10 +275,12 @@ impl Row {
         "\x1b[2J\x1b[1;1H"
     }
 
-    /// Leaves the row. A fault is left to the next write.
-    pub(crate) fn leave<W: Write>(&self, out: &mut W) {
-        let _ = out.write_all(self.leaving().as_bytes());
-        let _ = out.flush();
+    /// Leaves the row.
+    pub(crate) fn leave<W: Write>(&self, out: &mut W) -> io::Result<()>
+        ensures ok { OnOk result (Appends (W.contents out.old) (W.contents out.new) (leaving self.now.has_hint)) }
+        ensures err { OnErr result (AppendsFront (W.contents out.old) (W.contents out.new) (leaving self.now.has_hint)) }
+    {
+        write_flushed(out, self.leaving())
     }
 }
 
@@ -282,20 +301,46 @@ fn wrapped(buffer: &Buffer, count: u16, columns: u16) -> (u16, u16) {
     (row, column)
 }
 
-/// Brings the cursor so many rows up, and erases from there on.
-pub(crate) fn erase<W: Write>(out: &mut W, rows: u16) -> io::Result<()> {
-    if rows > 0 {
-        queue!(out, COLORS, MoveUp(rows))?;
+/// Writes a text, and flushes.
+fn write_flushed<W: Write>(out: &mut W, text: &str) -> io::Result<()>
+    ensures ok { OnOk result (Appends (W.contents out.old) (W.contents out.new) text.now) }
+    ensures err { OnErr result (AppendsFront (W.contents out.old) (W.contents out.new) text.now) }
+{
+    match write_text(out, text) {
+        Ok(()) => out.flush(),
+        Err(error) => Err(error),
     }
-    queue!(
-        out,
-        COLORS,
-        MoveToColumn(0),
-        Clear(ClearType::FromCursorDown)
-    )
+}
+
+/// Writes a command of a short text. At an error a beginning was written.
+fn send<W: Write, C: Command>(out: &mut W, command: &C) -> io::Result<()>
+    ensures ok { OnOk result (IfSome (C.text command.now Enabled) (Appends (W.contents out.old) (W.contents out.new))) }
+    ensures err { OnErr result (IfSome (C.text command.now Enabled) (AppendsFront (W.contents out.old) (W.contents out.new))) }
+{
+    let mut text = ArrayString::<48>::new();
+    match command.write_ansi(&mut text, ColorOutput::Enabled) {
+        Ok(()) => write_text(out, text.as_str()),
+        Err(fmt::Error) => Err(io::Error::from(ErrorKind::Other)),
+    }
+}
+
+/// Brings the cursor so many rows up, and erases from there on.
+pub(crate) fn erase<W: Write>(out: &mut W, rows: u16) -> io::Result<()>
+    ensures ok { OnOk result (Appends (W.contents out.old) (W.contents out.new) (erasure rows)) }
+    ensures err { OnErr result (AppendsFront (W.contents out.old) (W.contents out.new) (erasure rows)) }
+{
+    let below = (MoveToColumn(0), Clear(ClearType::FromCursorDown));
+    if rows > 0 {
+        send(out, &(MoveUp(rows), below))
+    } else {
+        send(out, &below)
+    }
 }
 
 /// Rings the bell.
-pub(crate) fn ring<W: Write>(out: &mut W) -> io::Result<()> {
-    execute!(out, COLORS, Print("\x07"))
+pub(crate) fn ring<W: Write>(out: &mut W) -> io::Result<()>
+    ensures ok { OnOk result (Appends (W.contents out.old) (W.contents out.new) bell) }
+    ensures err { OnErr result (AppendsFront (W.contents out.old) (W.contents out.new) bell) }
+{
+    write_flushed(out, "\x07")
 }

@@ -87,7 +87,9 @@ pub(crate) fn shown(prompt: &str, columns: u16) -> &str
 }
 
 /// What is shown of a hint in so many columns: all of it, or nothing if it has no room or has a control character.
-pub(crate) fn shown_hint(hint: &str, room: u16) -> &str {
+pub(crate) fn shown_hint(hint: &str, room: u16) -> &str
+    ensures { (result.now ≡ []) ⊎ (result.now ≡ hint.now) }
+{
     if most_columns(hint) > room || has_control(hint) {
         ""
     } else {

@@ -64,9 +64,11 @@ impl<'a> Words<'a> {
 }
 
 impl Helper for Words<'_> {
-    ghost use Rattle.prompt.specs.Words.{first_rest};
+    ghost use Rattle.prompt.specs.Words.{first_rest, or_nothing};
 
     ghost completes = { λ words before after. first_rest before words.names.now };
+
+    ghost hints = { λ words line. or_nothing (first_rest line words.names.now) };
 
     fn complete(&self, before: &str, _after: &str) -> Option<&str> {
         self.first_rest(before)

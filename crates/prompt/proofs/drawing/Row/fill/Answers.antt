@@ -1,4 +1,4 @@
-use Rattle.std.proofs.Common.{ap, chars}
+use Rattle.std.proofs.Common.{ap, chars, not}
 use Rattle.screen.specs.Buffers.{Picture}
 use Rattle.prompt.proofs.Columns.{cursor_value}
 use Rattle.prompt.proofs.drawing.Row.fill.Goals as goal
@@ -16,4 +16,11 @@ returns-clause-cursor g c = record {
   parted = c.parted.ensures;
   value = cursor_value (chars c.shown.result.now) (chars c.parted.result.0.now) (ap (λ (p : Picture). p.width) c.in_ok-fill.ensures.ok.1) c.in_ok-start.ensures.width
       c.width-width.ensures c.in_ok-start.ensures.behind c.in_ok-cursor.ensures.behind c.inside-self.ensures;
+}
+
+pub returns-clause-hinted : goal.returns-clause-hinted
+returns-clause-hinted g c = record {
+  shown = c.shown_hint-hint.result.now;
+  hints = c.shown_hint-hint.ensures;
+  has = ap not c.is_empty-2.ensures;
 }

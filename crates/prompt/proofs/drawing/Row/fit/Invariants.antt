@@ -1,11 +1,14 @@
--- What is known of the row stays, and the cursor is behind what was printed.
+-- What is known of the row stays. The cursor is behind what was printed, and whether a hint is shown is known.
 use Rattle.std.proofs.Common.{◌≡◌}
 use Rattle.prompt.specs.Drawing.{IsCursor}
+use Rattle.prompt.specs.Frames.{IsHinted}
 use Rattle.prompt.proofs.drawing.Row.fit.Given as goal
 
 abbrev pub invariant-loop-columns : goal.invariant-loop-columns
 invariant-loop-columns g l = record {
   strip : l.self.strip ≡ l.fn.self.strip;
+  asked : l.self.is_asked ≡ l.fn.self.is_asked;
   width : l.self.buffer.width ≡ l.fn.self.buffer.width;
   cursor : IsCursor l.fn.self.buffer.width l.fn.prompt l.fn.line l.self.column;
+  hinted : IsHinted l.fn.hint l.self.has_hint;
 }

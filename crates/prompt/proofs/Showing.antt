@@ -1,0 +1,223 @@
+-- What one more piece, and one more event, add to what was written.
+use Rattle.std.proofs.Common.{◌≡◌, inl, inr, ℕ, ◌++◌, Bool, true, false, cond, List, [], ◌∷◌, Option, Some, Result, Ok, Err, OnErr, OnOk, refl, sym, subst, append_assoc, append-nil}
+use Rattle.std.proofs.KnownBytes.{Appends-nil, Appends-trans}
+use Rattle.std.specs.Io.KnownBytes.{Appends}
+use Rattle.std.specs.declared.io.ErrorKind.{ErrorKind}
+use Rattle.std.specs.declared.io.ErrorKind.TheVariants.{OutOfMemory}
+use Rattle.std.specs.declared.time.Duration.{Duration}
+use Rattle.crossterm_types.specs.Seen.{Seen}
+use Rattle.crossterm_types.specs.declared.event.filter.AnyFilter.TheVariants as filters
+use Rattle.crossterm_read.specs.Answers.{SourceAnswer}
+use Rattle.crossterm_read.specs.Entries.{Reads}
+use Rattle.crossterm_read.specs.History.{Known}
+use Rattle.crossterm_read.specs.Replies.{Came}
+use Rattle.crossterm_command.specs.Writing.{AppendsFront}
+use Rattle.line_editor.specs.States.{EditorState}
+use Rattle.line_editor.specs.Turns.{Answer, Going, Clear, Ring, IsGoing}
+use Rattle.prompt.specs.Asking.{GoesOn, unread, further, placed, stopped, refused, after_event, answer_to}
+use Rattle.prompt.specs.Drawing.{clearing, leaving}
+use Rattle.prompt.specs.Frames.{Area, Draws, DrawsFront, IsUnseen, bell, erasure, unseen}
+use Rattle.prompt.specs.Lines.{going_on_events}
+use Rattle.prompt.specs.Written.{GoesOnShown, HasWritten, HasWrittenFront, LineEndsShown, PromptView, Stage, Shows, Due, Clears, Resized, StopsShown, Pieces, nothing_yet, shown, moved_on, missed, overflowed, rung, let_clear, cleared, resized, asked, erased, hint_for, resizes, overflows, prompt_for}
+use Rattle.prompt.specs.inside.Turning.{MayAsk, MayQuery, TakesAs, stage_after}
+
+-- Bytes that grew by a text whole or, at an error, by a beginning of it.
+pub either_way : {X E : Type 0} (r : Result X E) (old new : Option (List ℕ)) (text : List ℕ) → OnOk r (Appends old new text) → OnErr r (AppendsFront old new text) → AppendsFront old new text
+either_way (Ok x) old new text whole front = record { front = text; rest = []; split = sym (append-nil text); grown = whole }
+either_way (Err e) old new text whole front = front
+
+module _ (look : PromptView) (w : EditorState) where
+  -- Other bytes that are the same, and nothing more.
+  pub still : (es : List Seen) (k : EditorState) (stage : Stage) (out old new : Option (List ℕ)) → HasWritten look w es k stage out old → Appends old new [] → HasWritten look w es k stage out new
+  still es k stage out old new h grown = record {
+    bytes = h.bytes;
+    appended = subst (Appends out new) (append-nil h.bytes) (Appends-trans out old new h.bytes [] h.appended grown);
+    writes = h.writes;
+  }
+
+  -- A writer that is the same.
+  pub moved : {W : Type 0} (contents : W → Option (List ℕ)) (es : List Seen) (k : EditorState) (stage : Stage) (out : Option (List ℕ)) (x y : W) → y ≡ x
+      → HasWritten look w es k stage out (contents x) → HasWritten look w es k stage out (contents y)
+  moved contents es k stage out x y is h = subst (λ v. HasWritten look w es k stage out (contents v)) (sym is) h
+
+  -- Nothing was written yet.
+  pub starts : (a : Area) (old : Option (List ℕ)) → IsUnseen a → HasWritten look w [] w (Due a false) old old
+  starts a old fresh = record { bytes = []; appended = Appends-nil old; writes = nothing_yet a fresh }
+
+  -- All of it is a beginning.
+  pub all_of : (es : List Seen) (k : EditorState) (stage : Stage) (out new : Option (List ℕ)) → HasWritten look w es k stage out new → HasWrittenFront look w es k out new
+  all_of es k stage out new h = record {
+    bytes = h.bytes;
+    rest = [];
+    stage = stage;
+    appended = h.appended;
+    writes = subst (Pieces look w es k stage) (sym (append-nil h.bytes)) h.writes;
+  }
+
+  -- A beginning of one more piece.
+  more_front : (es : List Seen) (k : EditorState) (stage : Stage) (out old new : Option (List ℕ)) (before front rest : List ℕ) → Appends out old before → Appends old new front
+      → Pieces look w es k stage (before ++ (front ++ rest)) → HasWrittenFront look w es k out new
+  more_front es k stage out old new before front rest grown more writes = record {
+    bytes = before ++ front;
+    rest = rest;
+    stage = stage;
+    appended = Appends-trans out old new before front grown more;
+    writes = subst (Pieces look w es k stage) (sym (append_assoc before front rest)) writes;
+  }
+
+  -- A text of which a beginning was written.
+  part_of : (es : List Seen) (k : EditorState) (stage : Stage) (out old new : Option (List ℕ)) (before text : List ℕ) → Appends out old before → AppendsFront old new text
+      → Pieces look w es k stage (before ++ text) → HasWrittenFront look w es k out new
+  part_of es k stage out old new before text grown more writes =
+      more_front es k stage out old new before more.front more.rest grown more.grown (subst (λ t. Pieces look w es k stage (before ++ t)) more.split writes)
+
+  -- A frame.
+  pub shows : (es : List Seen) (k : EditorState) (a b : Area) (rings : Bool) (out old new : Option (List ℕ)) → HasWritten look w es k (Due a rings) out old
+      → Draws (prompt_for look.prompt k) k.line (hint_for look.hints k) a b old new → HasWritten look w es k (Shows b rings) out new
+  shows es k a b rings out old new h (bytes, grown, frame) = record {
+    bytes = h.bytes ++ bytes;
+    appended = Appends-trans out old new h.bytes bytes h.appended grown;
+    writes = shown es k a b rings h.bytes bytes h.writes frame;
+  }
+
+  pub shows_front : (es : List Seen) (k : EditorState) (a : Area) (rings : Bool) (out old new : Option (List ℕ)) → HasWritten look w es k (Due a rings) out old
+      → DrawsFront (prompt_for look.prompt k) k.line (hint_for look.hints k) a old new → HasWrittenFront look w es k out new
+  shows_front es k a rings out old new h (b, front, rest, grown, inl none) = all_of es k (Due a rings) out new (still es k (Due a rings) out old new h (subst (Appends old new) none grown))
+  shows_front es k a rings out old new h (b, front, rest, grown, inr frame) =
+      more_front es k (Shows b rings) out old new h.bytes front rest h.appended grown (shown es k a b rings h.bytes (front ++ rest) h.writes frame)
+
+  -- The bell.
+  pub rings : (es : List Seen) (k : EditorState) (a : Area) (out old new : Option (List ℕ)) → HasWritten look w es k (Shows a true) out old → Appends old new bell
+      → HasWritten look w es k (Shows a false) out new
+  rings es k a out old new h grown = record {
+    bytes = h.bytes ++ bell;
+    appended = Appends-trans out old new h.bytes bell h.appended grown;
+    writes = rung es k a h.bytes h.writes;
+  }
+
+  pub rings_front : (es : List Seen) (k : EditorState) (a : Area) (out old new : Option (List ℕ)) → HasWritten look w es k (Shows a true) out old → AppendsFront old new bell
+      → HasWrittenFront look w es k out new
+  rings_front es k a out old new h part = part_of es k (Shows a false) out old new h.bytes bell h.appended part (rung es k a h.bytes h.writes)
+
+  -- A clearing.
+  pub empties : (es : List Seen) (k : EditorState) (a : Area) (out old new : Option (List ℕ)) → HasWritten look w es k (Clears a) out old → Appends old new clearing
+      → HasWritten look w es k (Due (unseen a) false) out new
+  empties es k a out old new h grown = record {
+    bytes = h.bytes ++ clearing;
+    appended = Appends-trans out old new h.bytes clearing h.appended grown;
+    writes = cleared es k a h.bytes h.writes;
+  }
+
+  pub empties_front : (es : List Seen) (k : EditorState) (a : Area) (out old new : Option (List ℕ)) → HasWritten look w es k (Clears a) out old → AppendsFront old new clearing
+      → HasWrittenFront look w es k out new
+  empties_front es k a out old new h part = part_of es k (Due (unseen a) false) out old new h.bytes clearing h.appended part (cleared es k a h.bytes h.writes)
+
+  -- One more event that was taken.
+  takes_as : (b : Bool) (es : List Seen) (k : EditorState) (a : Area) (e : Seen) (out old : Option (List ℕ)) → HasWritten look w es k (Shows a false) out old → overflows look k e ≡ false
+      → answer_to (look.given k e) k ≡ Going → resizes e ≡ b → HasWritten look w (es ++ e ∷ []) (after_event (look.given k e) k) (cond b (Resized false) (Due a false)) out old
+  takes_as true es k a e out old h room on is = record { bytes = h.bytes; appended = h.appended; writes = resized es k a h.bytes e h.writes room on is }
+  takes_as false es k a e out old h room on is = record { bytes = h.bytes; appended = h.appended; writes = moved_on es k a h.bytes e h.writes room on is }
+
+  pub takes : (es : List Seen) (k z : EditorState) (a : Area) (e : Seen) (out old : Option (List ℕ)) → HasWritten look w es k (Shows a false) out old → overflows look k e ≡ false
+      → TakesAs Going (look.given k e) k z → HasWritten look w (es ++ e ∷ []) z (stage_after e a) out old
+  takes es k z a e out old h room (on, is) =
+      subst (λ (x : EditorState). HasWritten look w (es ++ e ∷ []) x (stage_after e a) out old) (sym is) (takes_as (resizes e) es k a e out old h room on refl)
+
+  -- One for which the bell is to ring.
+  pub misses : (es : List Seen) (k z : EditorState) (a : Area) (e : Seen) (out old : Option (List ℕ)) → HasWritten look w es k (Shows a false) out old
+      → TakesAs Ring (look.given k e) k z → HasWritten look w (es ++ e ∷ []) z (Due a true) out old
+  misses es k z a e out old h (on, is) =
+      subst (λ (x : EditorState). HasWritten look w (es ++ e ∷ []) x (Due a true) out old) (sym is) (record { bytes = h.bytes; appended = h.appended; writes = missed es k a h.bytes e h.writes on })
+
+  -- One whose text is too long.
+  pub overruns : (es : List Seen) (k z : EditorState) (a : Area) (e : Seen) (out old : Option (List ℕ)) → HasWritten look w es k (Shows a false) out old → overflows look k e ≡ true
+      → TakesAs Going (look.given k e) k z → HasWritten look w (es ++ e ∷ []) z (Shows a true) out old
+  overruns es k z a e out old h long (on, is) =
+      subst (λ (x : EditorState). HasWritten look w (es ++ e ∷ []) x (Shows a true) out old) (sym is) (record { bytes = h.bytes; appended = h.appended; writes = overflowed es k a h.bytes e h.writes long })
+
+  -- One that clears the window.
+  pub lets_clear : (es : List Seen) (k z : EditorState) (a : Area) (e : Seen) (out old : Option (List ℕ)) → HasWritten look w es k (Shows a false) out old
+      → TakesAs Clear (look.given k e) k z → HasWritten look w (es ++ e ∷ []) z (Clears a) out old
+  lets_clear es k z a e out old h (on, is) =
+      subst (λ (x : EditorState). HasWritten look w (es ++ e ∷ []) x (Clears a) out old) (sym is) (record { bytes = h.bytes; appended = h.appended; writes = let_clear es k a h.bytes e h.writes on })
+
+  -- The query, if it was made.
+  pub queried : (asks : Bool) (es : List Seen) (k : EditorState) (out old new : Option (List ℕ)) → HasWritten look w es k (Resized false) out old → (asks ≡ true → look.asks ≡ true)
+      → MayQuery asks old new → (was : Bool) × HasWritten look w es k (Resized was) out new
+  queried asks es k out old new h may (inl (is, part)) = (
+    true,
+    record {
+      bytes = h.bytes ++ part.front;
+      appended = Appends-trans out old new h.bytes part.front h.appended part.grown;
+      writes = asked es k h.bytes part.front part.rest h.writes (may is) part.split;
+    },
+  )
+  queried asks es k out old new h may (inr nothing) = (false, still es k (Resized false) out old new h nothing)
+
+  -- An erasure.
+  pub erases : (es : List Seen) (k : EditorState) (rows : ℕ) (a : Area) (out old new : Option (List ℕ)) → ((was : Bool) × HasWritten look w es k (Resized was) out old) → IsUnseen a
+      → Appends old new (erasure rows) → HasWritten look w es k (Due a false) out new
+  erases es k rows a out old new (was, h) fresh grown = record {
+    bytes = h.bytes ++ erasure rows;
+    appended = Appends-trans out old new h.bytes (erasure rows) h.appended grown;
+    writes = erased es k h.bytes was rows a h.writes fresh;
+  }
+
+  pub erases_front : (es : List Seen) (k : EditorState) (rows : ℕ) (a : Area) (out old new : Option (List ℕ)) → ((was : Bool) × HasWritten look w es k (Resized was) out old) → IsUnseen a
+      → AppendsFront old new (erasure rows) → HasWrittenFront look w es k out new
+  erases_front es k rows a out old new (was, h) fresh part =
+      part_of es k (Due a false) out old new h.bytes (erasure rows) h.appended part (erased es k h.bytes was rows a h.writes fresh)
+
+  -- What was written until a question.
+  pub all_queried : (es : List Seen) (k : EditorState) (out new : Option (List ℕ)) → ((was : Bool) × HasWritten look w es k (Resized was) out new) → HasWrittenFront look w es k out new
+  all_queried es k out new (was, h) = all_of es k (Resized was) out new h
+
+module _ {S : Type 0} (drawn : S → List SourceAnswer → S → Type 0) (ask : S → List (Option Duration)) (look : PromptView) (v : Known S) (w : EditorState) where
+  -- A line goes on, and these events were read.
+  abbrev pub WentOn : Known S → EditorState → List Seen → Type 0
+  WentOn u z es = (goes : GoesOn drawn ask look.given v w u z) × (going_on_events goes ≡ es)
+
+  -- Nothing was read.
+  pub not_yet : (u : Known S) → u ≡ v → WentOn u w []
+  not_yet u same = subst (λ (x : Known S). WentOn x w []) (sym same) (unread, refl)
+
+  -- One more event was read, and perhaps a question was asked.
+  pub went_on : (p q u : Known S) (k z : EditorState) (e : Seen) (goes : GoesOn drawn ask look.given v w p k) → Reads drawn ask filters.Event p q (Came (Some e))
+      → (a : Answer) → IsGoing a → TakesAs a (look.given k e) k z → MayAsk drawn ask q u → WentOn u z (going_on_events goes ++ e ∷ [])
+  went_on p q u k z e goes reads a going takes (inl asks) =
+      subst (λ (x : EditorState). WentOn u x (going_on_events goes ++ e ∷ [])) (sym takes.1)
+      (placed q u (after_event (look.given k e) k) (further p q k e goes reads (subst IsGoing (sym takes.0) going)) asks, refl)
+  went_on p q u k z e goes reads a going takes (inr same) =
+      subst (λ (x : EditorState). WentOn u x (going_on_events goes ++ e ∷ [])) (sym takes.1)
+      (subst (λ (y : Known S). WentOn y (after_event (look.given k e) k) (going_on_events goes ++ e ∷ [])) (sym same) (further p q k e goes reads (subst IsGoing (sym takes.0) going), refl))
+
+  pub goes_shown : (u : Known S) (z : EditorState) (es : List Seen) (a : Area) (out new : Option (List ℕ)) → WentOn u z es → HasWritten look w es z (Shows a false) out new
+      → GoesOnShown drawn ask look v w u z a out new
+  goes_shown u z es a out new (goes, is) h = record { goes = goes; written = subst (λ t. HasWritten look w t z (Shows a false) out new) (sym is) h }
+
+  pub stops_shown : (kind : ErrorKind) (u : Known S) (z : EditorState) (es : List Seen) (out new : Option (List ℕ)) → WentOn u z es → HasWrittenFront look w es z out new
+      → StopsShown drawn ask look v w kind u z out new
+  stops_shown kind u z es out new (goes, is) h = record { stops = stopped goes; written = subst (λ t. HasWrittenFront look w t z out new) (sym is) h }
+
+  -- The line ended, and its area was left.
+  pub ends_shown : (p u : Known S) (k z : EditorState) (e : Seen) (a : Answer) (x : Area) (out old new : Option (List ℕ)) → GoesOnShown drawn ask look v w p k x out old
+      → Reads drawn ask filters.Event p u (Came (Some e)) → TakesAs a (look.given k e) k z → AppendsFront old new (leaving x.has_hint) → LineEndsShown drawn ask look v w a u z out new
+  ends_shown p u k z e a x out old new g reads takes part = record {
+    ends = record { before = p; line = k; event = e; goes = g.goes; reads = reads; ends = takes.0; left = takes.1 };
+    area = x;
+    bytes = g.written.bytes;
+    front = part.front;
+    rest = part.rest;
+    writes = g.written.writes;
+    leaves = part.split;
+    appended = Appends-trans out old new g.written.bytes part.front g.written.appended part.grown;
+  }
+
+  -- Memory was refused for the event that was read next.
+  pub refused_shown : (p q : Known S) (k z : EditorState) (e : Seen) (x : Area) (kind : ErrorKind) (out new : Option (List ℕ)) → GoesOnShown drawn ask look v w p k x out new
+      → Reads drawn ask filters.Event p q (Came (Some e)) → overflows look k e ≡ false → z ≡ k → kind ≡ OutOfMemory → StopsShown drawn ask look v w kind q z out new
+  refused_shown p q k z e x kind out new g reads room same is =
+      subst (λ (y : EditorState). StopsShown drawn ask look v w kind q y out new) (sym same) record {
+        stops = refused p e g.goes reads room is;
+        written = all_of look w (going_on_events g.goes) k (Shows x false) out new g.written;
+      }
