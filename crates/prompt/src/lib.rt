@@ -22,8 +22,8 @@
 //! The line takes one row, and is seen through it as `Line::seen` says, in all columns of the window but the last. A key writes what it changes
 //! of the row. A character that no cell of `screen` can hold, as a joiner of emoji, is shown as U+FFFD.
 //!
-//! Ctrl-L clears the window, and draws the row at its top. After a resize the terminal is asked for the cursor's place, since a narrower window may have wrapped the row. One that doesn't answer isn't
-//! asked again in that call; then what was wrapped stays above.
+//! Ctrl-L clears the window, and draws the row at its top. After a resize the terminal is asked for the cursor's place, since a narrower window
+//! may have wrapped the row. One that doesn't answer isn't asked again in that call; then what was wrapped stays above.
 //!
 //! It is built on `own_terminal`, `line_editor` and `screen`, by their public contracts, and on the crate `unicode_width` for columns.
 //!
@@ -40,11 +40,15 @@
 //! | a prompt with a control character is refused, and nothing was done; with one no line is returned | `Prompt::read_line`, `read_line` |
 //! | raw mode is on after a line, and stays on; the session's features stay as they are | `Prompt::read_line`, `read_line` |
 //! | the lines of several calls are those of all events that were read for them, but for those whose texts are too long | `laws::gives_lines` |
-//! | a frame makes the row show some cells, with the cursor behind what was printed before it, and changes nothing else; what leaves a row, and what clears the window | `Row::{draw, leaving, clearing}` |
+//! | all that is written for a line is a list of pieces. A frame of the line follows each event that was taken, before the next one is read; an event that clears the window does so first. The bell rings at a text that is too long, and behind the frame at a search that finds nothing. After a resize comes an erasure, and before it at most the question for the cursor's place, if the prompt asks. Once the line has ended the row is left once, as far as the writer goes | `Prompt::read_line`, `read_line` |
+//! | after an error a beginning of such a list was written, for the events that the editor took | `Prompt::read_line`, `read_line` |
+//! | while an incremental search goes on, what it looks for is shown in the prompt's place, and no hint | `Prompt::read_line`, `read_line` |
+//! | a frame makes the row show some cells, with the cursor behind what was printed before it, and changes nothing else; at an error a beginning of one was written. What leaves a row, and what clears the window | `Row::{draw, leaving, clearing}` |
 //! | names complete a text by the rest of the first that begins with it and goes on | `Helper::complete` of `Words` |
 //!
 //! The row is drawn by `screen::Strip::draw`, so each frame makes it show some cells, and changes nothing else. The cursor is behind what was
-//! printed before it. Which cells are shown is only tested, hints too, and so is the bell. So is when the terminal is asked for the cursor's place.
+//! printed before it. Which cells are shown is only tested. So is which rows are erased after a resize, and how often a terminal that doesn't
+//! answer is asked.
 //!
 //! What to believe, in the order in which it reads (`specs/`), and the contracts that it is proved by:
 //!
@@ -56,6 +60,8 @@
 //! | `Asking` | what comes of asking for a line, event by event | `Prompt::read_line`, `read_line` |
 //! | `Lines` | the events and the lines of several calls | `laws::gives_lines` |
 //! | `Drawing` | how a line is drawn in the cursor's row | `Row` |
+//! | `Frames` | what is written to show a line: a frame of the row, the bell, an erasure | `Row::draw`, `Prompt::read_line`, `read_line` |
+//! | `Written` | what is written while a line is asked for, piece by piece | `Prompt::read_line`, `read_line` |
 //!
 //! `specs/inside/` says the same of a part, and no public clause cites it.
 //!
