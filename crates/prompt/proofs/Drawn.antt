@@ -1,4 +1,4 @@
--- What a frame wrote.
+-- The bytes of a frame.
 use Rattle.std.proofs.Common.{◌≡◌, inl, inr, ℕ, ◌<◌, Bool, List, [], Option, Some, refl, sym, subst, ◌∙◌, append-nil}
 use Rattle.std.proofs.KnownBytes.{Appends-kept, Appends-nil}
 use Rattle.std.specs.Io.KnownBytes.{Appends, Keeps}
@@ -10,8 +10,8 @@ use Rattle.screen.specs.declared.faults.DrawFault.{DrawFault}
 use Rattle.screen.specs.declared.faults.DrawFault.TheVariants.{Size, Cursor, Command}
 use Rattle.screen.specs.Buffers.{Picture}
 use Rattle.screen.specs.Strips.{IsOneRow, StripView, IsRowFrame, RowNotDrawn, with_row}
-use Rattle.prompt.specs.Drawing.{IsCursor}
-use Rattle.prompt.specs.Frames.{Area, Draws, DrawsFront, IsLineFrame, IsHinted, area, drawn, narrow}
+use Rattle.prompt.specs.Frames.{Area, Draws, DrawsFront, IsLineFrame, area, drawn, narrow}
+use Rattle.prompt.specs.Pictures.{IsPicture}
 
 -- Bytes that stayed are bytes to which none were added.
 pub kept : (old new : Option (List ℕ)) → Keeps old new → Appends old new []
@@ -34,21 +34,21 @@ module _ (prompt : List ℕ) (line : Split) (hint : List ℕ) (s : StripView) (h
   pub in_none : (old new : Option (List ℕ)) → s.width ≡ 0 → Keeps old new → Draws prompt line hint (area s has) (area s has) old new
   in_none old new is k = ([], kept old new k, narrow is refl refl)
 
-  -- The cursor's place in a buffer of the strip's width.
-  placed : (p : Picture) (width column : ℕ) → p.width ≡ width → IsOneRow s p → IsCursor width prompt line column → IsCursor s.width prompt line column
-  placed p width column same one at = subst (λ n. IsCursor n prompt line column) (sym same ∙ one.0) at
+  -- A picture of the strip's width.
+  fits : (p : Picture) (width column : ℕ) (h : Bool) → p.width ≡ width → IsOneRow s p → IsPicture width prompt line hint p column h → IsPicture s.width prompt line hint p column h
+  fits p width column h same one pic = subst (λ n. IsPicture n prompt line hint p column h) (sym same ∙ one.0) pic
 
   -- A frame that was flushed, or not.
-  pub in_row : (t : StripView) (h : Bool) (p : Picture) (width column : ℕ) (old mid new : Option (List ℕ)) → 0 < s.width → p.width ≡ width → IsCursor width prompt line column → IsHinted hint h
+  pub in_row : (t : StripView) (h : Bool) (p : Picture) (width column : ℕ) (old mid new : Option (List ℕ)) → 0 < s.width → p.width ≡ width → IsPicture width prompt line hint p column h
       → IsOneRow s p → t ≡ with_row s Enabled p.cells → (ts : List Token) × AppendsReading old mid ts × IsRowFrame s Enabled p (Some column) ts → Keeps mid new
       → Draws prompt line hint (area s has) (area t h) old new
-  in_row t h p width column old mid new wide same at hinted one is (ts, (bytes, grown, reads, only), frame) k =
-      (bytes, Appends-kept old mid new bytes grown k, drawn p column ts wide (placed p width column same one at) hinted is reads.1 frame)
+  in_row t h p width column old mid new wide same pic one is (ts, (bytes, grown, reads, only), frame) k =
+      (bytes, Appends-kept old mid new bytes grown k, drawn p column ts wide one (fits p width column h same one pic) is reads.1 frame)
 
   -- A frame that wasn't drawn.
-  pub cut : (fault : DrawFault) (t : StripView) (h : Bool) (p : Picture) (width column : ℕ) (old new : Option (List ℕ)) → 0 < s.width → p.width ≡ width → IsCursor width prompt line column → IsHinted hint h
+  pub cut : (fault : DrawFault) (t : StripView) (h : Bool) (p : Picture) (width column : ℕ) (old new : Option (List ℕ)) → 0 < s.width → p.width ≡ width → IsPicture width prompt line hint p column h
       → RowNotDrawn fault s t Enabled p (Some column) old new → DrawsFront prompt line hint (area s has) old new
-  cut Size t h p width column old new wide same_width at hinted (size, strip, is) = none old new (same old new is)
-  cut Cursor t h p width column old new wide same_width at hinted (size, inside, strip, is) = none old new (same old new is)
-  cut (Command fault) t h p width column old new wide same_width at hinted (size, inside, strip, ts, frame, part) =
-      (area (with_row s Enabled p.cells) h, part.front, part.rest, part.grown, inr (drawn p column ts wide (placed p width column same_width size at) hinted refl part.split frame))
+  cut Size t h p width column old new wide same_width pic (size, strip, is) = none old new (same old new is)
+  cut Cursor t h p width column old new wide same_width pic (size, inside, strip, is) = none old new (same old new is)
+  cut (Command fault) t h p width column old new wide same_width pic (size, inside, strip, ts, frame, part) =
+      (area (with_row s Enabled p.cells) h, part.front, part.rest, part.grown, inr (drawn p column ts wide size (fits p width column h same_width size pic) refl part.split frame))

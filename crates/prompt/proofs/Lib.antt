@@ -4,6 +4,8 @@ pub mod Completing
 pub mod Naming
 pub mod Lines
 pub mod Columns
+pub mod Pictures
+pub mod Fitting
 pub mod Showing
 pub mod Drawn
 pub mod Sending

@@ -1,4 +1,4 @@
--- What a question for the cursor's place writes.
+-- The bytes of a question for the cursor's place.
 use Rattle.std.proofs.Common.{◌≡◌, inl, inr, ℕ, List, [], Option, Result, refl, sym, subst, append-nil}
 use Rattle.std.proofs.KnownBytes.{Appends-nil}
 use Rattle.std.specs.Io.KnownBytes.{Appends}

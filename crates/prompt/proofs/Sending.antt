@@ -2,7 +2,7 @@
 use Rattle.std.specs.Prelude.{◌≡◌, ℕ, List, Option, Some, None, Result, Ok, Err, IfErr, IfOk, IfSome, OnErr, OnOk}
 use Rattle.std.proofs.Common.{subst}
 
--- What holds of these bytes holds of the command's text, if these are it.
+-- A fact of these bytes is one of the command's text, if these are it.
 holds_of_text : (text : Option (List ℕ)) (P : List ℕ → Type 0) (bs : List ℕ) → IfSome text (λ t. bs ≡ t) → P bs → IfSome text P
 holds_of_text None P bs is p = tt
 holds_of_text (Some t) P bs is p = subst P is p
@@ -15,7 +15,7 @@ pub sent_err : {X E : Type 0} (r : Result X E) (text : Option (List ℕ)) (P : L
 sent_err (Ok x) text P bs is p = p
 sent_err (Err e) text P bs is p = holds_of_text text P bs is p
 
--- What holds in any case.
+-- A fact that holds in any case.
 pub ok_of : {X E : Type 0} {A : Type 0} (r : Result X E) → A → OnOk r A
 ok_of (Ok x) a = a
 ok_of (Err e) a = tt
@@ -24,7 +24,7 @@ pub err_of : {X E : Type 0} {A : Type 0} (r : Result X E) → A → OnErr r A
 err_of (Ok x) a = tt
 err_of (Err e) a = a
 
--- What follows from what holds in one case.
+-- A fact that follows from another one in one case.
 pub ok_with : {X E : Type 0} {A B : Type 0} (r : Result X E) → (A → B) → OnOk r A → OnOk r B
 ok_with (Ok x) f a = f a
 ok_with (Err e) f a = tt
@@ -33,11 +33,11 @@ pub err_with : {X E : Type 0} {A B : Type 0} (r : Result X E) → (A → B) → 
 err_with (Ok x) f a = tt
 err_with (Err e) f a = f a
 
--- What holds at an error that came.
+-- A fact that holds at an error that came.
 pub at_err : {X E : Type 0} {r : Result X E} {e : E} {P : Type 0} → r ≡ Err e → OnErr r P → P
 at_err {X} {E} {r} {e} {P} is p = subst (λ r. OnErr r P) is p
 
--- What follows of each value, and of each error.
+-- A fact that follows of each value, and of each error.
 pub if_ok_with : {X E : Type 0} {A B : X → Type 0} (r : Result X E) → ((x : X) → A x → B x) → IfOk r A → IfOk r B
 if_ok_with (Ok x) f a = f x a
 if_ok_with (Err e) f a = tt

@@ -1,4 +1,4 @@
--- What one more piece, and one more event, add to what was written.
+-- One more piece, and one more event, in the list of what was written.
 use Rattle.std.proofs.Common.{◌≡◌, inl, inr, ℕ, ◌++◌, Bool, true, false, cond, List, [], ◌∷◌, Option, Some, Result, Ok, Err, OnErr, OnOk, refl, sym, subst, append_assoc, append-nil}
 use Rattle.std.proofs.KnownBytes.{Appends-nil, Appends-trans}
 use Rattle.std.specs.Io.KnownBytes.{Appends}
@@ -168,7 +168,7 @@ module _ (look : PromptView) (w : EditorState) where
   erases_front es k rows a out old new (was, h) fresh part =
       part_of es k (Due a false) out old new h.bytes (erasure rows) h.appended part (erased es k h.bytes was rows a h.writes fresh)
 
-  -- What was written until a question.
+  -- All that was written until a question.
   pub all_queried : (es : List Seen) (k : EditorState) (out new : Option (List ℕ)) → ((was : Bool) × HasWritten look w es k (Resized was) out new) → HasWrittenFront look w es k out new
   all_queried es k out new (was, h) = all_of es k (Resized was) out new h
 

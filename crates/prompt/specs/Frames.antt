@@ -1,5 +1,5 @@
--- What is written to show a line: a frame of the cursor's row, and what is written between frames.
-use Rattle.std.specs.Prelude.{◌≡◌, ◌⊎◌, ℕ, ◌<◌, ◌==◌, ◌++◌, Bool, not, if◌then◌else◌, length, List, [], ◌∷◌, Option, Some, None}
+-- The texts that show a line: a frame of the cursor's row, and those between frames.
+use Rattle.std.specs.Prelude.{◌≡◌, ◌⊎◌, ℕ, ◌<◌, ◌==◌, ◌++◌, Bool, if◌then◌else◌, List, [], ◌∷◌, Option, Some, None}
 use Rattle.std.specs.Io.KnownBytes.{Appends}
 use Rattle.crossterm_command.specs.Tokens.{Token, text_of}
 use Rattle.crossterm_command.specs.declared.color_output.ColorOutput.TheVariants.{Enabled}
@@ -7,8 +7,8 @@ use Rattle.crossterm.specs.Sequences.{by, clear}
 use Rattle.crossterm.specs.declared.terminal.ClearType.TheVariants.{FromCursorDown}
 use Rattle.line_editor.specs.Splits.{Split}
 use Rattle.screen.specs.Buffers.{Picture}
-use Rattle.screen.specs.Strips.{StripView, IsRowFrame, with_row, without_row}
-use Rattle.prompt.specs.Drawing.{IsCursor}
+use Rattle.screen.specs.Strips.{StripView, IsOneRow, IsRowFrame, with_row, without_row}
+use Rattle.prompt.specs.Pictures.{IsPicture}
 
 -- The part of a terminal in which a line is shown: the cursor's row.
 pub record Area : Type 0 where
@@ -28,16 +28,10 @@ IsUnseen a = a.strip.drawn ≡ None
 abbrev pub unseen : Area → Area
 unseen a = area (without_row a.strip) a.has_hint
 
--- All of a hint is shown behind the line or nothing, and whether something is.
-pub record IsHinted (hint : List ℕ) (has_hint : Bool) : Type 0 where
-  pub shown : List ℕ
-  pub hints : (shown ≡ []) ⊎ (shown ≡ hint)
-  pub has : has_hint ≡ not (length shown == 0)
-
--- One frame: the text of tokens that make the area show some cells, and change nothing else. The cursor is behind the
--- prompt and what is before it in the line. In a window of one column nothing is written.
+-- One frame: the text of tokens that make the area show a picture of the prompt, the line and the hint, and change
+-- nothing else. In a window of one column nothing is written.
 pub data IsLineFrame (prompt : List ℕ) (line : Split) (hint : List ℕ) (a b : Area) (bytes : List ℕ) : Type 0 where
-  drawn : (p : Picture) (column : ℕ) (ts : List Token) → 0 < a.strip.width → IsCursor a.strip.width prompt line column → IsHinted hint b.has_hint
+  drawn : (p : Picture) (column : ℕ) (ts : List Token) → 0 < a.strip.width → IsOneRow a.strip p → IsPicture a.strip.width prompt line hint p column b.has_hint
       → b.strip ≡ with_row a.strip Enabled p.cells → text_of ts ≡ bytes → IsRowFrame a.strip Enabled p (Some column) ts → IsLineFrame prompt line hint a b bytes
   narrow : a.strip.width ≡ 0 → b ≡ a → bytes ≡ [] → IsLineFrame prompt line hint a b bytes
 

@@ -4,6 +4,7 @@ pub mod Completing
 pub mod Asking
 pub mod Lines
 pub mod Drawing
+pub mod Pictures
 pub mod Frames
 pub mod Written
 pub mod inside

@@ -1,4 +1,4 @@
--- What is written while a line is asked for, piece by piece.
+-- The pieces that are written while a line is asked for.
 use Rattle.std.specs.Prelude.{◌≡◌, ℕ, Bool, true, false, List, [], ◌∷◌, ◌++◌, Option, Some, None, encode_utf8_all}
 use Rattle.std.specs.Io.KnownBytes.{Appends}
 use Rattle.std.specs.declared.io.ErrorKind.{ErrorKind}
@@ -48,7 +48,7 @@ hint_or (Some pattern) hint = []
 abbrev pub hint_for : (List ℕ → List ℕ) → EditorState → List ℕ
 hint_for hints w = hint_or (pattern_of w) (hints (encode_utf8_all (line_text w.line)))
 
--- What an editor is given for an event has no room in its line.
+-- Whether an editor is given a text that has no room in its line, for an event.
 abbrev pub overflows : PromptView → EditorState → Seen → Bool
 overflows look w e = is_too_long (event_more (look.given w e) w) w
 

@@ -5,9 +5,10 @@ ghost use Rattle.screen.specs.Strips.{without_row};
 ghost use Rattle.crossterm_command.specs.Writing.{AppendsFront};
 ghost use Rattle.crossterm_command.specs.declared.color_output.ColorOutput.TheVariants.{Enabled};
 ghost use Rattle.prompt.specs.Drawing.{IsCursor, IsDrawn, IsUnknown, clearing, column_behind, inside, leaving};
-ghost use Rattle.prompt.specs.Frames.{Draws, DrawsFront, IsHinted, area, bell, erasure};
+ghost use Rattle.prompt.specs.Frames.{Draws, DrawsFront, area, bell, erasure};
+ghost use Rattle.prompt.specs.Pictures.{IsPicture, dim_style, printed_from};
 
-use crate::prompts::{parted, shown, shown_hint};
+use crate::prompts::{hint_behind, parted, shown};
 use arrayvec::ArrayString;
 use crossterm::Command;
 use crossterm::cursor::{MoveToColumn, MoveUp};
@@ -69,7 +70,9 @@ fn had_room(width: u16, from: u16, to: u16, count: usize) -> bool {
 }
 
 /// The style of a hint.
-fn dim() -> ContentStyle {
+fn dim() -> ContentStyle
+    ensures { result ≡ dim_style }
+{
     ContentStyle {
         attributes: Attributes::none().with(Attribute::Dim),
         ..ContentStyle::new()
@@ -130,6 +133,7 @@ impl Row {
         ensures strip { self.new.strip ≡ self.old.strip }
         ensures width { self.new.buffer.width ≡ self.old.buffer.width }
         ensures asked { self.new.is_asked ≡ self.old.is_asked }
+        ensures shown { OnOk result (self.new.buffer ≡ printed_from self.old.buffer column text.now style) }
         ensures behind { IfOk result (λ end. end ≡ column_behind self.old.buffer.width column (chars text.now)) }
     {
         let used = self
@@ -152,21 +156,17 @@ impl Row {
         ensures asked { self.new.is_asked ≡ self.old.is_asked }
         ensures width { OnOk result (self.new.buffer.width ≡ self.old.buffer.width) }
         ensures cursor { OnOk result (IsCursor self.old.buffer.width prompt.now line.now self.new.column) }
-        ensures hinted { OnOk result (IsHinted hint.now self.new.has_hint) }
+        ensures picture { OnOk result (IsPicture self.old.buffer.width prompt.now line.now hint.now self.new.buffer self.new.column self.new.has_hint) }
     {
         let width = self.buffer.width();
         self.buffer.fill(' ', ContentStyle::new())?;
         let start = self.print(0, shown(prompt, width), ContentStyle::new())?;
         let (text, count) = line.seen(columns.saturating_sub(start));
-        let (before, after) = parted(text, count, line.after());
+        let behind = line.after();
+        let (before, after) = parted(text, count, behind);
         let cursor = self.print(start, before, ContentStyle::new())?;
         let end = self.print(cursor, after, ContentStyle::new())?;
-        let room = if line.after().is_empty() {
-            width.saturating_sub(end)
-        } else {
-            0
-        };
-        let hint = shown_hint(hint, room);
+        let hint = hint_behind(behind, hint, width.saturating_sub(end));
         self.print(end, hint, dim())?;
         self.has_hint = !hint.is_empty();
         self.column = inside(width, cursor);
@@ -184,7 +184,7 @@ impl Row {
         ensures asked { self.new.is_asked ≡ self.old.is_asked }
         ensures width { OnOk result (self.new.buffer.width ≡ self.old.buffer.width) }
         ensures cursor { OnOk result (IsCursor self.old.buffer.width prompt.now line.now self.new.column) }
-        ensures hinted { OnOk result (IsHinted hint.now self.new.has_hint) }
+        ensures picture { OnOk result (IsPicture self.old.buffer.width prompt.now line.now hint.now self.new.buffer self.new.column self.new.has_hint) }
     {
         let width = self.strip.width();
         if self.fill(prompt, line, hint, width)? {

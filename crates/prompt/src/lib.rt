@@ -43,12 +43,13 @@
 //! | all that is written for a line is a list of pieces. A frame of the line follows each event that was taken, before the next one is read; an event that clears the window does so first. The bell rings at a text that is too long, and behind the frame at a search that finds nothing. After a resize comes an erasure, and before it at most the question for the cursor's place, if the prompt asks. Once the line has ended the row is left once, as far as the writer goes | `Prompt::read_line`, `read_line` |
 //! | after an error a beginning of such a list was written, for the events that the editor took | `Prompt::read_line`, `read_line` |
 //! | while an incremental search goes on, what it looks for is shown in the prompt's place, and no hint | `Prompt::read_line`, `read_line` |
-//! | a frame makes the row show some cells, with the cursor behind what was printed before it, and changes nothing else; at an error a beginning of one was written. What leaves a row, and what clears the window | `Row::{draw, leaving, clearing}` |
+//! | the cells of each frame: the prompt, if it leaves eight columns to the line; the line, as `Line::seen` sees it in some columns; behind it the hint, dimmed, if the cursor is at the line's end and there is room; and blanks | `Row::draw`, `Prompt::read_line`, `read_line` |
+//! | a frame makes the row show these cells, with the cursor behind what was printed before it, and changes nothing else; at an error a beginning of one was written. What leaves a row, and what clears the window | `Row::{draw, leaving, clearing}` |
 //! | names complete a text by the rest of the first that begins with it and goes on | `Helper::complete` of `Words` |
 //!
 //! The row is drawn by `screen::Strip::draw`, so each frame makes it show some cells, and changes nothing else. The cursor is behind what was
-//! printed before it. Which cells are shown is only tested. So is which rows are erased after a resize, and how often a terminal that doesn't
-//! answer is asked.
+//! printed before it. It is only tested that the line is seen in as many columns as have room, which rows are erased after a resize, and how
+//! often a terminal that doesn't answer is asked.
 //!
 //! What to believe, in the order in which it reads (`specs/`), and the contracts that it is proved by:
 //!
@@ -60,6 +61,7 @@
 //! | `Asking` | what comes of asking for a line, event by event | `Prompt::read_line`, `read_line` |
 //! | `Lines` | the events and the lines of several calls | `laws::gives_lines` |
 //! | `Drawing` | how a line is drawn in the cursor's row | `Row` |
+//! | `Pictures` | which cells show a prompt, a line and a hint | `Row::draw`, `Prompt::read_line`, `read_line` |
 //! | `Frames` | what is written to show a line: a frame of the row, the bell, an erasure | `Row::draw`, `Prompt::read_line`, `read_line` |
 //! | `Written` | what is written while a line is asked for, piece by piece | `Prompt::read_line`, `read_line` |
 //!

@@ -1,5 +1,7 @@
 //! A prompt, and what is shown of it.
-ghost use Rattle.std.specs.Prelude.{◌≡◌, ◌⊎◌, [], IfOk, IfSome, chars, not, string_bytes};
+ghost use Rattle.std.specs.Prelude.{◌≡◌, ◌≤◌, ◌⊎◌, [], IfOk, IfSome, chars, max, not, string_bytes};
+ghost use Rattle.line_editor.specs.Views as views;
+ghost use Rattle.prompt.specs.Pictures.{hint_behind, most_columns, shown_hint, shown_prompt};
 ghost use Rattle.prompt.specs.Prompts.{has_control};
 ghost use Rattle.prompt.specs.Drawing.{IsParted, search_text};
 
@@ -58,16 +60,30 @@ pub fn search_text(alloc: Global, pattern: &str, is_ahead: bool) -> Result<Strin
 }
 
 /// The columns that a character takes.
-fn columns_of(c: char) -> usize {
-    c.width().unwrap_or(0)
+fn columns_of(c: char) -> usize
+    ensures value { result ≡ views.columns_of c }
+    ensures few { result ≤ 3 }
+{
+    match c.width() {
+        None => 0,
+        Some(width) => width,
+    }
 }
 
-/// The columns that a text takes at most: a character of no column may be replaced by one of one.
-fn most_columns(text: &str) -> u16 {
+/// The columns that a character takes at most: one of no column may be replaced by one of one.
+fn most_of(c: char) -> u16
+    ensures { result ≡ max (views.columns_of c) 1 }
+{
+    columns_of(c).max(1) as u16
+}
+
+/// The columns that a text takes at most.
+fn most_columns(text: &str) -> u16
+    ensures { result ≡ most_columns (chars text.now) }
+{
     let mut columns = 0u16;
     for c in text.chars() {
-        let width = u16::try_from(columns_of(c).max(1)).unwrap_or(u16::MAX);
-        columns = columns.saturating_add(width);
+        columns = columns.saturating_add(most_of(c));
     }
     columns
 }
@@ -77,7 +93,8 @@ const ROOM: u16 = 8;
 
 /// What is shown of a prompt in a row of so many columns: all of it, or nothing if too few are left.
 pub(crate) fn shown(prompt: &str, columns: u16) -> &str
-    ensures { (result.now ≡ []) ⊎ (result.now ≡ prompt.now) }
+    ensures value { result.now ≡ shown_prompt columns prompt.now }
+    ensures either { (result.now ≡ []) ⊎ (result.now ≡ prompt.now) }
 {
     if columns.saturating_sub(most_columns(prompt)) < ROOM {
         ""
@@ -87,13 +104,24 @@ pub(crate) fn shown(prompt: &str, columns: u16) -> &str
 }
 
 /// What is shown of a hint in so many columns: all of it, or nothing if it has no room or has a control character.
-pub(crate) fn shown_hint(hint: &str, room: u16) -> &str
-    ensures { (result.now ≡ []) ⊎ (result.now ≡ hint.now) }
+fn shown_hint(hint: &str, room: u16) -> &str
+    ensures { result.now ≡ shown_hint room hint.now }
 {
     if most_columns(hint) > room || has_control(hint) {
         ""
     } else {
         hint
+    }
+}
+
+/// The part of a hint that is shown in so many columns behind a line, which has this text behind its cursor.
+pub(crate) fn hint_behind<'a>(after: &str, hint: &'a str, room: u16) -> &'a str
+    ensures { result.now ≡ hint_behind after.now room hint.now }
+{
+    if after.is_empty() {
+        shown_hint(hint, room)
+    } else {
+        ""
     }
 }
 

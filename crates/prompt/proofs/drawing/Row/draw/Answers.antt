@@ -31,7 +31,7 @@ returns-in-Ok-clause-shows g c =
     ok_of c.flush-in-Ok.result (subst (λ (x : StripView). Draws c.args.prompt.now c.args.line.now c.args.hint.now (area x c.args.self.now.has_hint) (area c.draw.new.self c.fit.new.self.has_hint) old new) c.fit.ensures.strip
     (in_row c.args.prompt.now c.args.line.now c.args.hint.now c.fit.new.self.strip c.args.self.now.has_hint c.draw.new.self c.fit.new.self.has_hint
     c.fit.new.self.buffer c.args.self.now.buffer.width c.fit.new.self.column old mid new (omega (arith, c.width.ensures, c.if-width-eq0.false, ap (λ (x : StripView). x.width) c.fit.ensures.strip))
-    c.in_ok-fit.ensures.width c.in_ok-fit.ensures.cursor c.in_ok-fit.ensures.hinted c.in-Ok.ensures.accepted.0 c.in-Ok.ensures.drawn c.in-Ok.ensures.frame c.flush-in-Ok.ensures.bytes))
+    c.in_ok-fit.ensures.width c.in_ok-fit.ensures.picture c.in-Ok.ensures.accepted.0 c.in-Ok.ensures.drawn c.in-Ok.ensures.frame c.flush-in-Ok.ensures.bytes))
 
 pub returns-in-Ok-clause-stops : goal.returns-in-Ok-clause-stops
 returns-in-Ok-clause-stops g c =
@@ -42,7 +42,7 @@ returns-in-Ok-clause-stops g c =
     (whole c.args.prompt.now c.args.line.now c.args.hint.now c.fit.new.self.strip c.args.self.now.has_hint (area c.draw.new.self c.fit.new.self.has_hint) old new
     (in_row c.args.prompt.now c.args.line.now c.args.hint.now c.fit.new.self.strip c.args.self.now.has_hint c.draw.new.self c.fit.new.self.has_hint
     c.fit.new.self.buffer c.args.self.now.buffer.width c.fit.new.self.column old mid new (omega (arith, c.width.ensures, c.if-width-eq0.false, ap (λ (x : StripView). x.width) c.fit.ensures.strip))
-    c.in_ok-fit.ensures.width c.in_ok-fit.ensures.cursor c.in_ok-fit.ensures.hinted c.in-Ok.ensures.accepted.0 c.in-Ok.ensures.drawn c.in-Ok.ensures.frame c.flush-in-Ok.ensures.bytes)))
+    c.in_ok-fit.ensures.width c.in_ok-fit.ensures.picture c.in-Ok.ensures.accepted.0 c.in-Ok.ensures.drawn c.in-Ok.ensures.frame c.flush-in-Ok.ensures.bytes)))
 
 pub returns-in-Err-clause-stops : goal.returns-in-Err-clause-stops
 returns-in-Err-clause-stops g c =
@@ -51,4 +51,4 @@ returns-in-Err-clause-stops g c =
     subst (λ (x : StripView). DrawsFront c.args.prompt.now c.args.line.now c.args.hint.now (area x c.args.self.now.has_hint) old new) c.fit.ensures.strip
     (cut c.args.prompt.now c.args.line.now c.args.hint.now c.fit.new.self.strip c.args.self.now.has_hint c.in-Err.fault c.draw.new.self c.fit.new.self.has_hint
     c.fit.new.self.buffer c.args.self.now.buffer.width c.fit.new.self.column old new (omega (arith, c.width.ensures, c.if-width-eq0.false, ap (λ (x : StripView). x.width) c.fit.ensures.strip))
-    c.in_ok-fit.ensures.width c.in_ok-fit.ensures.cursor c.in_ok-fit.ensures.hinted c.in-Err.ensures.err)
+    c.in_ok-fit.ensures.width c.in_ok-fit.ensures.picture c.in-Err.ensures.err)
