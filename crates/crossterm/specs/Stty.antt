@@ -8,7 +8,7 @@ use Rattle.crossterm.specs.Sizes.{both, size_in}
 use Rattle.crossterm.specs.declared.terminal.size.WindowSize.{WindowSize}
 use Rattle.crossterm.specs.declared.terminal.sys.stty.SttyMode.{SttyMode}
 
--- The way to a helper.
+-- A `SttyDevice` as contracts see it: the way to its helper.
 pub record Stty (R W : Type 0) : Type 0 where
   -- The reader of its answers.
   pub answers : R

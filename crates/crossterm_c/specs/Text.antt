@@ -11,7 +11,7 @@ lossy_text bytes = encode_utf8_all (lossy_chars bytes)
 abbrev pub TextBeginsWith : List ℕ → List ℕ → ℕ → Type 0
 TextBeginsWith bytes front place = lossy_text bytes ≡ front ++ lossy_text (drop place bytes)
 
--- The first character of some bytes, in UTF-8: U+FFFD for a part that isn't UTF-8.
+-- The first character of some bytes, in UTF-8. If they don't begin with one, it is U+FFFD; also if there are none.
 abbrev pub next_text : List ℕ → List ℕ
 next_text bytes = encode_utf8 (or_replacement (decoded bytes).char)
 

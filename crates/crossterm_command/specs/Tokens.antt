@@ -4,14 +4,14 @@ use Rattle.std.specs.Char.{IsScalar, encode_utf8}
 use Rattle.std.specs.Str.{IsUtf8}
 use Rattle.std.specs.List.{AllByRecursion}
 
--- What ends an operating system command.
+-- The end of an operating system command.
 pub data OscEnd : Type 0 where
   -- ST: ESC and a backslash.
   St : OscEnd
   -- A bell.
   Bell : OscEnd
 
--- What a terminal reads at a time.
+-- A token, which a terminal reads at a time.
 pub data Token : Type 0 where
   -- A character that isn't ESC, also a control character outside a sequence.
   Char : ℕ → Token

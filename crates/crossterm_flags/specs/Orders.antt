@@ -1,4 +1,4 @@
--- What the comparisons of a type return.
+-- The comparisons of a type, and what they return.
 use Rattle.std.specs.Prelude.{◌≡◌, Option}
 use Rattle.std.specs.Cmp.{Agrees}
 use Rattle.std.specs.declared.cmp.Ordering.{Ordering}

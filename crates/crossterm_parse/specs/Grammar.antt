@@ -1,4 +1,4 @@
--- What a terminal's bytes are made of: sequences. Each shape says at which byte a sequence ends, not what it means.
+-- Sequences, of which a terminal's bytes are made. Each shape says at which byte a sequence ends, not what it means.
 use Rattle.std.specs.Prelude.{codes, ◌≡◌, ◌≢◌, ◌≤◌, ◌<◌, ℕ, nat_le, if◌then◌else◌, length, Bool, true, List, [], ◌∷◌, ◌++◌, ◌⊎◌, ◌==◌, false, ◌&&◌}
 use Rattle.std.specs.Str.{byte}
 use Rattle.std.specs.List.{AllByRecursion}
@@ -53,19 +53,19 @@ abbrev pub HasNoEnd : List ℕ → Type 0
 HasNoEnd [] = Unit {0}
 HasNoEnd (b ∷ bs) = (b ≢ byte "c") × AllByRecursion EndsNoReply bs
 
--- What ends a reply after the bytes `w`: a `c`, or a `u` if `w` isn't empty.
+-- A byte that ends a reply after the bytes `w`: a `c`, or a `u` if `w` isn't empty.
 abbrev pub EndsReply : List ℕ → ℕ → Type 0
 EndsReply w f = (f ≡ byte "c") ⊎ ((f ≡ byte "u") × (w ≢ []))
 
--- What opens a paste after `ESC [` (xterm, bracketed paste mode).
+-- The bytes that open a paste after `ESC [` (xterm, bracketed paste mode).
 abbrev pub paste_mark : List ℕ
 paste_mark = codes "200~"
 
--- What opens a paste: `ESC [ 200~`.
+-- The bytes that open a paste: `ESC [ 200~`.
 abbrev pub paste_start : List ℕ
 paste_start = ESC ∷ byte "[" ∷ paste_mark
 
--- What ends a paste: `ESC [ 201~`.
+-- The bytes that end a paste: `ESC [ 201~`.
 abbrev pub paste_end : List ℕ
 paste_end = ESC ∷ codes "[201~"
 

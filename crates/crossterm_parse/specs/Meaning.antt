@@ -1,4 +1,4 @@
--- What a whole sequence means.
+-- The meaning of a whole sequence.
 use Rattle.std.specs.Prelude.{ℕ, ◌+◌, ◌-◌, ◌==◌, nat_lt, nat_le, if◌then◌else◌, Bool, ◌&&◌, List, [], ◌∷◌, length, take, drop, encode_utf8_all, Option, Some, None}
 use Rattle.std.specs.Int.RustNames.{bit_and, bit_or}
 use Rattle.std.specs.Option.{option_map}
@@ -49,11 +49,11 @@ decoded_character c = option_map typed c
 abbrev pub letter_meaning : ℕ → Option Meaning
 letter_meaning b = option_map (λ code. pressed_with code 0) (letter_key b)
 
--- What `ESC O b` means, by its last byte.
+-- The meaning of `ESC O b`, by its last byte.
 abbrev pub after_ss3 : ℕ → Option Meaning
 after_ss3 b = if b == byte "R" then Some (pressed_with (F 3) 0) else letter_meaning b
 
--- What `ESC [ b` means, by its last byte.
+-- The meaning of `ESC [ b`, by its last byte.
 abbrev pub after_csi : ℕ → Option Meaning
 after_csi b =
     if b == byte "I" then Some FocusGained else
@@ -66,27 +66,27 @@ abbrev pub with_alt : Option Meaning → Option Meaning
 with_alt (Some (Key k)) = Some (Key (record k { modifiers = modifiers_of (bit_or k.modifiers.0 4) }))
 with_alt _ = None
 
--- What the bytes of a character mean: one byte by itself, or several as they decode.
+-- The meaning of a character's bytes: of one byte by itself, or of several as they decode.
 abbrev pub character_meaning : Bool → List ℕ → Option Meaning
 character_meaning raw [] = None
 character_meaning raw (b ∷ []) = single raw b
 character_meaning raw (b ∷ c ∷ bs) = decoded_character (decoded (b ∷ c ∷ bs)).char
 
--- What the bytes after `ESC O` mean, by the first of them.
+-- The meaning of the bytes after `ESC O`, by the first of them.
 abbrev pub ss3_meaning : List ℕ → Option Meaning
 ss3_meaning [] = None
 ss3_meaning (b ∷ bs) = after_ss3 b
 
--- What `ESC [ [ b` means, by its last byte: `A` to `E` are F1 to F5.
+-- The meaning of `ESC [ [ b`, by its last byte: `A` to `E` are F1 to F5.
 abbrev pub linux_key : ℕ → Option Meaning
 linux_key b = if nat_le (byte "A") b && nat_le b (byte "E") then Some (pressed_with (F (b - byte "@")) 0) else None
 
--- What the bytes after `ESC [ [` mean, by the first of them.
+-- The meaning of the bytes after `ESC [ [`, by the first of them.
 abbrev pub linux_meaning : List ℕ → Option Meaning
 linux_meaning [] = None
 linux_meaning (b ∷ bs) = linux_key b
 
--- What the bytes after `ESC [ M` mean, by the first three.
+-- The meaning of the bytes after `ESC [ M`, by the first three.
 abbrev pub x10_meaning : List ℕ → Option Meaning
 x10_meaning (a ∷ b ∷ c ∷ bs) = x10_by a b c
 x10_meaning _ = None
@@ -99,13 +99,13 @@ flags_of n = KeyboardEnhancementFlags (record { 0 = bit_and n 31 })
 abbrev pub flags_reply : Option ℕ → Option Meaning
 flags_reply n = option_map flags_of (at_most 255 n)
 
--- What the bytes after `ESC [ ?` mean. The last is `c` for the terminal's attributes; else those before it are the
+-- The meaning of the bytes after `ESC [ ?`. The last is `c` for the terminal's attributes; else those before it are the
 -- keyboard flags (kitty).
 abbrev pub reply_meaning : List ℕ → Option Meaning
 reply_meaning [] = None
 reply_meaning (b ∷ bs) = if last_of (b ∷ bs) == byte "c" then Some PrimaryDeviceAttributes else flags_reply (number (front_of (b ∷ bs)))
 
--- What the bytes after `ESC [` mean, by the first of them.
+-- The meaning of the bytes after `ESC [`, by the first of them.
 abbrev pub csi_meaning : Bool → List ℕ → Option Meaning
 csi_meaning raw [] = None
 csi_meaning raw (b ∷ bs) =
@@ -116,13 +116,13 @@ csi_meaning raw (b ∷ bs) =
     if is_digit b then numbered_meaning raw (b ∷ bs) else
     after_csi b
 
--- What the bytes after ESC mean. If there are none it is the Esc key, and so it is with a second ESC.
+-- The meaning of the bytes after ESC. If there are none it is the Esc key, and so it is with a second ESC.
 abbrev pub escape_meaning : Bool → List ℕ → Option Meaning
 escape_meaning raw [] = Some (pressed_with Esc 0)
 escape_meaning raw (b ∷ bs) = if b == byte "O" then ss3_meaning bs else if b == byte "[" then csi_meaning raw bs else
     if b == ESC then Some (pressed_with Esc 0) else with_alt (character_meaning raw (b ∷ bs))
 
--- What the complete bytes of a sequence mean; `raw` is the mode reported with the last one.
+-- The meaning of a sequence's complete bytes; `raw` is the mode reported with the last one.
 abbrev pub meaning : Bool → List ℕ → Option Meaning
 meaning raw [] = None
 meaning raw (b ∷ bs) = if b == ESC then escape_meaning raw bs else character_meaning raw (b ∷ bs)

@@ -1,4 +1,4 @@
--- What the mouse did (xterm, "Mouse Tracking").
+-- Reports of the mouse (xterm, "Mouse Tracking").
 use Rattle.std.specs.Prelude.{ℕ, ◌+◌, ◌-◌, ◌*◌, ◌/◌, ◌%◌, ◌==◌, nat_le, if◌then◌else◌, Option, Some, None, option_and_then}
 use Rattle.std.specs.Str.{byte}
 use Rattle.std.specs.Int.RustNames.{bit_and, bit_or}
@@ -36,7 +36,7 @@ dragged_button n =
     if nat_le n 5 then Some Moved else
     None
 
--- What a code reports: a movement if its bit 32 is on, else a button or the wheel.
+-- The kind of event that a code reports: a movement if its bit 32 is on, else a button or the wheel.
 abbrev pub mouse_kind : ℕ → Option MouseEventKind
 mouse_kind code = if bit_and code 32 == 32 then dragged_button (button_of code) else pressed_button (button_of code)
 

@@ -1,4 +1,4 @@
--- What a numbered sequence means (xterm, "PC-Style Function Keys"; kitty's keyboard protocol, "Functional key definitions").
+-- The meaning of a numbered sequence (xterm, "PC-Style Function Keys"; kitty's keyboard protocol, "Functional key definitions").
 use Rattle.std.specs.Prelude.{ℕ, ◌-◌, ◌==◌, nat_le, if◌then◌else◌, Bool, ◌&&◌, ◌||◌, List, [], ◌∷◌, Option, Some, None, option_and_then}
 use Rattle.std.specs.Int.RustNames.{bit_and, bit_or}
 use Rattle.std.specs.Option.{option_map}
@@ -29,7 +29,7 @@ last_of [] = 0
 last_of (b ∷ []) = b
 last_of (b ∷ c ∷ bs) = last_of (c ∷ bs)
 
--- What is read of a numbered sequence before its final byte. Three fields and four parts as numbers, the last byte, and
+-- The reading of a numbered sequence before its final byte. Three fields and four parts as numbers, the last byte, and
 -- whether it is UTF-8.
 abbrev pub readings_of : List ℕ → Readings
 readings_of text = record {
@@ -107,7 +107,7 @@ abbrev pub code_meaning : Bool → Readings → Option Meaning
 code_meaning raw r = let h = or_empty_modifier_field (modifier_field_of r) in
     option_and_then (λ n. option_map (functional_meaning h r.alternate) (functional_key raw (bits_have_shift h.modifiers.0) n)) r.code
 
--- What a numbered sequence means, by its final byte.
+-- The meaning of a numbered sequence, by its final byte.
 abbrev pub final_meaning : Bool → ℕ → Readings → Option Meaning
 final_meaning raw f r =
     if f == byte "~" then tilde_meaning r else
@@ -116,7 +116,7 @@ final_meaning raw f r =
     if f == byte "M" then rxvt_meaning r else
     numbered_letter f r
 
--- What a numbered sequence means; nothing if it isn't UTF-8.
+-- The meaning of a numbered sequence; nothing if it isn't UTF-8.
 abbrev pub numbered_by : Bool → ℕ → Readings → Option Meaning
 numbered_by raw f r = if r.utf8 then final_meaning raw f r else None
 
@@ -126,10 +126,10 @@ front_of [] = []
 front_of (b ∷ []) = []
 front_of (b ∷ c ∷ bs) = b ∷ front_of (c ∷ bs)
 
--- What a numbered sequence means, from its first digit to its final byte.
+-- The meaning of a numbered sequence, from its first digit to its final byte.
 abbrev pub numbered_meaning : Bool → List ℕ → Option Meaning
 numbered_meaning raw text = numbered_by raw (last_of text) (readings_of (front_of text))
 
--- What the bytes after `ESC [ <` mean, to the final byte: a mouse report.
+-- The meaning of the bytes after `ESC [ <`, to the final byte: a mouse report.
 abbrev pub sgr_meaning : List ℕ → Option Meaning
 sgr_meaning text = sgr_by (last_of text) (readings_of (front_of text))

@@ -1,4 +1,4 @@
--- What bytes do to a parser.
+-- Bytes, as a parser takes them.
 use Rattle.std.specs.Prelude.{◌≡◌, ◌≢◌, ◌⊎◌, ◌≤◌, ◌<◌, ◌==◌, ◌&&◌, not, Bool, true, false, ℕ, ◌+◌, ◌*◌, get_or, length, List, ◌++◌, ◌∷◌, [], map, take}
 use Rattle.std.specs.List.{AllByRecursion}
 use Rattle.crossterm_types.specs.Seen.{Seen}

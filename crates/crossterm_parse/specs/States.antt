@@ -73,10 +73,13 @@ IsOpening opening.Not text = (more : List ℕ) → begins paste_mark (text ++ mo
 
 -- A paste that is open. Which bytes end it depends only on how much of its end was met.
 pub record OpenPaste (m : Met) (bytes : List ℕ) : Type 0 where
+  -- The bytes that came after `ESC [ 200~`.
   pub text : List ℕ
   pub is : bytes ≡ paste_start ++ text
+  -- They end with the part of `ESC [ 201~` that was met.
   pub before : List ℕ
   pub ends : text ≡ before ++ met_bytes m
+  -- Whatever comes next, it ends the paste exactly if it ends one that begins with that part alone.
   pub alike : (more : List ℕ) → ends_paste (text ++ more) ≡ ends_paste (met_bytes m ++ more)
 
 -- A numbered sequence that is open: a digit after `ESC [`, and bytes behind it of which none is final.

@@ -1,4 +1,4 @@
--- What is kept of numbers, fields and UTF-8 while they are read.
+-- Numbers, fields and UTF-8, as much as is kept of them while they are read.
 use Rattle.std.specs.Prelude.{◌≡◌, ℕ, ◌++◌, true, List, [], ◌∷◌, Some, ◌<◌, ◌≤◌, None, ◌^◌}
 use Rattle.std.specs.Str.{byte, IsUtf8}
 use Rattle.crossterm_parse.specs.Fields.{cut}
@@ -18,7 +18,7 @@ use Rattle.bstr.specs.Utf8.{second, continues}
 use Rattle.crossterm_parse.specs.declared.fields.Part.TheVariants as part
 use Rattle.crossterm_parse.specs.declared.fields.Place.TheVariants as place
 
--- What is kept of a number agrees with its text so far. `Bad` says that neither it nor any longer text is a number.
+-- A number that is being read agrees with its text so far. `Bad` says that neither it nor any longer text is a number.
 abbrev pub Tracks : List ℕ → Number → Type 0
 Tracks text Empty = text ≡ []
 Tracks text Plus = text ≡ byte "+" ∷ []
@@ -77,7 +77,7 @@ TracksUtf8 text Sound = IsUtf8 text
 TracksUtf8 text (Partial begun) = (good : List ℕ) × IsUtf8 good × (text ≡ good ++ begun_bytes begun) × IsFront begun
 TracksUtf8 text Broken = (more : List ℕ) → ¬ (IsUtf8 (text ++ more))
 
--- What is kept of a text agrees with it: its fields, its last byte, and whether it is UTF-8.
+-- A text that is being read agrees with what is kept of it: its fields, its last byte, and whether it is UTF-8.
 pub record KeptAgrees (d : Parameters) (text : List ℕ) : Type 0 where
   pub reads : ReadsFields d.fields (cut (byte ";") text)
   pub last : d.last ≡ last_of text

@@ -1,4 +1,4 @@
--- What one more byte does to the state of an open sequence.
+-- The state of an open sequence after one more byte.
 use Rattle.std.specs.Prelude.{◌≡◌, ℕ, ◌-◌, length, take, ◌++◌, ◌==◌, if◌then◌else◌, Bool, true, false, List, [], ◌∷◌, Some, option_to_list, nat_lt, ◌<◌, ◌≤◌, ◌&&◌, Option, None, ◌+◌, ◌*◌, nat_le}
 use Rattle.std.specs.Str.{byte}
 use Rattle.std.specs.Option.{option_map}
@@ -38,7 +38,7 @@ use Rattle.crossterm_parse.specs.declared.paste.Opening.TheVariants as opening
 use Rattle.crossterm_parse.specs.declared.fields.Part.TheVariants as part
 use Rattle.crossterm_parse.specs.declared.fields.Place.TheVariants as place
 
--- What one more byte does to an open sequence.
+-- The outcome of one more byte for an open sequence.
 pub data ByteStep : Type 0 where
   -- It goes on, in this state.
   Open : State → ByteStep
@@ -47,7 +47,7 @@ pub data ByteStep : Type 0 where
   -- The open paste is over.
   Closed : ByteStep
 
--- What one more byte does to an open character.
+-- The outcome of one more byte for an open character.
 pub data Grown : Type 0 where
   -- It goes on, with these bytes.
   More : Begun → Grown
@@ -125,16 +125,17 @@ grown escaped (One a) b = if is_continuing b && nat_lt 0 (further_after a) then 
 grown escaped (Two a b) c = if is_continuing c && nat_lt 1 (further_after a) then More (Three a b c) else over escaped (decoded (a ∷ b ∷ c ∷ [])).char
 grown escaped (Three a b c) d = over escaped (decoded (a ∷ b ∷ c ∷ d ∷ [])).char
 
--- What happens to an open sequence, by what happens to its character.
+-- A byte of a UTF-8 character: while the character needs more bytes the sequence stays open. With its last byte the
+-- sequence is whole, and means that character.
 abbrev pub step_of : Bool → Grown → ByteStep
 step_of escaped (More begun) = Open (Utf8 (record { escaped = escaped; begun = begun }))
 step_of escaped (Over meaning) = Whole meaning
 
--- What is kept of a numbered sequence, after one more byte.
+-- The part of a numbered sequence that is kept, after one more byte.
 abbrev pub parameters_after : Parameters → ℕ → Parameters
 parameters_after d b = record { fields = fields_after d.fields b; last = b; validity = utf8_after d.validity b }
 
--- What is kept of a numbered sequence before its first byte.
+-- The part of a numbered sequence that is kept before its first byte.
 abbrev pub empty_parameters : Parameters
 empty_parameters = record { fields = empty_fields; last = 0; validity = Sound }
 
@@ -144,7 +145,7 @@ is_sound Sound = true
 is_sound (Partial begun) = false
 is_sound Broken = false
 
--- What is read of a numbered sequence, by what was kept of it.
+-- The reading of a numbered sequence, by what was kept of it.
 abbrev pub readings_at : Parameters → Readings
 readings_at d = record {
   first = reading (whole_of d.fields.first);
@@ -195,7 +196,7 @@ met_after met.Two b = if b == byte "0" then Open (Paste met.Zero) else met_anew 
 met_after met.Zero b = if b == byte "1" then Open (Paste met.One) else met_anew b
 met_after met.One b = if b == byte "~" then Closed else met_anew b
 
--- What one more byte does to an open sequence, by its state.
+-- The outcome of one more byte for an open sequence, by its state.
 abbrev pub state_after : State → ℕ → Bool → Bool → ByteStep
 state_after Ground b raw pause = if b == ESC then (if pause then Whole (Some (pressed_with Esc 0)) else Open Escape) else
     if is_lead b then Open (Utf8 (record { escaped = false; begun = One b })) else Whole (single raw b)
@@ -225,17 +226,17 @@ state_after (Numbered d o) b raw pause = if is_final b then number_ends o d raw 
 state_after (Paste m) b raw pause = met_after m b
 state_after (Utf8 c) b raw pause = step_of c.escaped (grown c.escaped c.begun b)
 
--- What a report after `ESC [ M` means with this last byte; nothing if bytes are missing.
+-- The meaning of a report after `ESC [ M` with this last byte; nothing if bytes are missing.
 abbrev pub x10_meaning_with : X10Report → ℕ → Option Meaning
 x10_meaning_with x10.Empty b = None
 x10_meaning_with (x10.Code a) b = None
 x10_meaning_with (x10.Column a b) c = x10_by a b c
 
--- What an open character means if it is over with this byte.
+-- The meaning of an open character if it is over with this byte.
 abbrev pub open_character_meaning : Character → ℕ → Option Meaning
 open_character_meaning c b = if c.escaped then with_alt (decoded_character (decoded (begun_bytes c.begun ++ b ∷ [])).char) else decoded_character (decoded (begun_bytes c.begun ++ b ∷ [])).char
 
--- What an open sequence means if it is whole with this byte.
+-- The meaning of an open sequence if it is whole with this byte.
 abbrev pub meaning_with : State → ℕ → Bool → Option Meaning
 meaning_with Ground b raw = if b == ESC then Some (pressed_with Esc 0) else single raw b
 meaning_with Escape b raw = if b == ESC then Some (pressed_with Esc 0) else with_alt (single raw b)

@@ -51,10 +51,10 @@
 //! | `Meaning` | 155 | what any whole sequence means | `meaning.rt` |
 //! | `Recognizer` | 132 | the grammar as tests | |
 //! | `Tracking` | 84 | what is kept of numbers, fields and UTF-8 while they are read | |
-//! | `States` | 109 | which bytes of an open sequence a state represents | |
+//! | `States` | 112 | which bytes of an open sequence a state represents | |
 //! | `View` | 131 | a parser as its callers see it, and what it makes of a piece | `Parser::advance`; `laws::{cuttings, two_steps_a_byte, a_step_a_byte}` |
 //! | `Giving` | 28 | its events, one after another | `Parser::{next, events}` |
-//! | `Transitions` | 300 | what one more byte does to a state | `state.rt` |
+//! | `Transitions` | 301 | what one more byte does to a state | `state.rt` |
 //! | `Putting` | 83 | what many bytes do, and what comes of them | `State::take` |
 //!
 //! Crates above cite the lemmas of `DivisionLaws`, `GrammarLaws`, `MachineLaws`, `NumberLaws`, `RunLaws`, `ViewLaws`.

@@ -19,7 +19,7 @@ use Rattle.crossterm_read.specs.declared.read.call.Call.TheVariants as call
 use Rattle.crossterm_read.specs.declared.read.call.Reply.{Reply}
 use Rattle.crossterm_read.specs.declared.read.call.Reply.TheVariants as reply
 
--- What a caller sees of a reply that the library returned.
+-- A reply that the library returned, as a caller sees it.
 abbrev pub said : {A : Type 0} → Reply A → Said
 said (reply.Poll ready) = Polled ready
 said (reply.Event event) = Came (option_map seen event)
@@ -27,7 +27,7 @@ said (reply.Position column row) = Came (Some (CursorPosition column row))
 said (reply.Keyboard flags) = Came (Some (flags_seen flags))
 said (reply.Fault kind) = Faulted kind
 
--- What is asked of a reader, and how long it may ask its source.
+-- A request to a reader, and how long it may ask its source.
 pub data Request : Type 0 where
   Poll : Patience → AnyFilter → Request
   Read : Patience → AnyFilter → Request
@@ -84,7 +84,7 @@ empty = record { held = []; arrivals = 0 }
 -- The calls were made one after another over these answers of the device. The replies are those returned, and these
 -- events are held at the end.
 pub record Plays (device_answers : List DeviceAnswer) (calls : List Call) (answers : List Said) (held : List Seen) : Type 0 where
-  -- What the source answered in each call.
+  -- The source's answers in each call.
   pub drawn : List (List SourceAnswer)
   pub replies : List Replied
   pub last : EventStore

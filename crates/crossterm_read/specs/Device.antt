@@ -1,4 +1,4 @@
--- What a device answers.
+-- The answers of a device.
 use Rattle.std.specs.Prelude.{◌≡◌, ◌⊎◌, ◌≤◌, ◌==◌, ℕ, Bool, List, [], ◌∷◌, ◌++◌, length, take, Option, Result, Ok, Err, IsSomeAnd, ⊤}
 use Rattle.std.specs.List.{AllByRecursion}
 use Rattle.std.specs.Duration.{as_nanos}
@@ -13,7 +13,7 @@ use Rattle.crossterm_read.specs.declared.source.device.Answer.TheVariants as ans
 
 -- One answer of a device.
 pub data DeviceAnswer : Type 0 where
-  -- Some bytes, and whether the terminal was in raw mode. None are the end of input.
+  -- Some bytes, and whether the terminal was in raw mode. No bytes mean that the input has ended.
   Bytes : List ℕ → Bool → DeviceAnswer
   -- A new size: columns and rows.
   Resized : ℕ → ℕ → DeviceAnswer
@@ -24,7 +24,7 @@ pub data DeviceAnswer : Type 0 where
   -- An error of this kind.
   Fault : ErrorKind → DeviceAnswer
 
--- What a call of `answer` returned, with the bytes that it put into the buffer.
+-- The result of a call of `answer`, with the bytes that it put into the buffer.
 abbrev pub device_answer : Result Answer Error → List ℕ → DeviceAnswer
 device_answer (Ok (answer.Bytes count raw)) buffer = Bytes (take count buffer) raw
 device_answer (Ok (answer.Resize columns rows)) buffer = Resized columns rows
@@ -35,7 +35,7 @@ device_answer (Err e) buffer = Fault (error_kind e)
 -- How a device answers: between which of its states it can give which answers.
 pub record Answering (D : Type 0) : Type 1 where
   pub answered : D → List DeviceAnswer → D → Type 0
-  -- No answer leaves its state as it is.
+  -- If it gives no answer, its state stays.
   pub none : (s : D) → answered s [] s
   -- Two runs of answers, one after another, are one run.
   pub on : (s t u : D) (xs ys : List DeviceAnswer) → answered s xs t → answered t ys u → answered s (xs ++ ys) u

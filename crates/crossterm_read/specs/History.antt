@@ -14,9 +14,9 @@ use Rattle.crossterm_read.specs.Replies.{Replied, ToPoll, ToTake, ToQuery, Fault
 pub record Entry : Type 0 where
   -- The number of the pass.
   pub by : ℕ
-  -- What was asked.
+  -- The request.
   pub call : Request
-  -- What the source answered in it.
+  -- The source's answers in it.
   pub answers : List SourceAnswer
   pub reply : Replied
 
@@ -33,7 +33,7 @@ are_of passes log = list_all (λ e. nat_lt e.by passes) log
 abbrev pub StartsWith : List Entry → List Entry → Type 0
 StartsWith log seen = (rest : List Entry) × (log ≡ seen ++ rest)
 
--- What the source answered in these calls, in order.
+-- The source's answers in these calls, in order.
 abbrev pub answers_of : List Entry → List SourceAnswer
 answers_of log = flat_map (λ e. e.answers) log
 
@@ -41,7 +41,7 @@ answers_of log = flat_map (λ e. e.answers) log
 abbrev pub taken_by : List Entry → List (Seen × ℕ)
 taken_by log = taken (map (λ e. e.reply) log)
 
--- What one call took: by which filter, and the arrival number of the event.
+-- The event that one call took: by which filter, and the arrival number of the event.
 abbrev pub took : Request → Replied → List (AnyFilter × ℕ)
 took (Read patience f) (ToTake (Some x)) = (f, x.1) ∷ []
 took (Take f) (ToTake (Some x)) = (f, x.1) ∷ []
@@ -51,7 +51,7 @@ took (Keyboard patience again) (ToQuery x (Some y)) = (filter.Flags, x.1) ∷ (f
 took (Keyboard patience again) (ToQuery x None) = (filter.Flags, x.1) ∷ []
 took c r = []
 
--- What these calls took, in order: by which filter, and the arrival number of each event.
+-- The events that these calls took, in order: by which filter, and the arrival number of each event.
 abbrev pub takes_of : List Entry → List (AnyFilter × ℕ)
 takes_of log = flat_map (λ e. took e.call e.reply) log
 
@@ -73,23 +73,23 @@ all_events o log = o.store.held ++ arrived o.store.arrivals (answers_of log)
 -- Each event of a history was taken once or is held. The numbers that promise an order do so while fewer than 2^64 - 1
 -- events have arrived.
 pub record EachOnce {S : Type 0} (o : ReaderState S) (log : List Entry) (t : ReaderState S) : Type 0 where
-  -- What was taken and what is held are together all events, each once.
+  -- The events that were taken and those that are held are together all events, each once.
   pub once : IsPermutation (all_events o log) (taken_by log ++ t.store.held)
   -- The held events are in order of arrival.
   pub in_order : IsWithin t.store.held (all_events o log)
   pub arrivals : t.store.arrivals ≡ numbered_after o.store.arrivals (answers_of log)
   -- No two events that were taken have the same number.
   pub differ : IsLow t.store.arrivals → Differ (taken_by log)
-  -- What one filter takes has rising numbers.
+  -- The events that one filter takes have rising numbers.
   pub rise : IsLow t.store.arrivals → RiseByFilter (takes_of log)
 
--- What a pass learnt from another one: its number, the calls that it had seen, and those seen by itself before.
+-- The knowledge that a pass got from another one: its number, the calls that it had seen, and those seen by itself before.
 pub record Meeting : Type 0 where
   pub other : ℕ
   pub theirs : List Entry
   pub ours : List Entry
 
--- What a pass knows of its reader.
+-- The knowledge that a pass has of its reader.
 pub record Known (S : Type 0) : Type 0 where
   -- Its own number.
   pub number : ℕ
@@ -144,7 +144,7 @@ module _ {S : Type 0} (drawn : S → List SourceAnswer → S → Type 0) where
   Runs s [] t = s ≡ t
   Runs s (e ∷ es) t = (m : ReaderState S) × Makes e s m × Runs m es t
 
-  -- What one call does to what its pass knows. The call is the last of one legal history, which begins with all that
+  -- A call changes what its pass knows so. The call is the last of one legal history, which begins with all that
   -- the pass had seen.
   pub record Extends (made : ReaderState S → Entry → ReaderState S → Type 0) (v w : Known S) : Type 0 where
     pub opening : ReaderState S

@@ -19,7 +19,7 @@ IsUnrefused (ToQuery x (Some y)) = Unit {0}
 IsUnrefused (ToQuery x None) = ⊥
 IsUnrefused (Fault kind) = kind ≢ OutOfMemory
 
--- What a caller sees of such a reply, if the call is no query for the keyboard flags.
+-- Such a reply, as a caller sees it, if the call is no query for the keyboard flags.
 abbrev pub ShowsUnrefused : Said → Type 0
 ShowsUnrefused (Polled ready) = Unit {0}
 ShowsUnrefused (Came x) = Unit {0}

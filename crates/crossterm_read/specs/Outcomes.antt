@@ -12,7 +12,7 @@ use Rattle.crossterm_read.specs.Answers.{SourceAnswer, Gave, Nothing, Failed}
 use Rattle.crossterm_read.specs.Device.{DeviceAnswer, Bytes, Resized, Woken, Idle, Fault, marked_bytes}
 use Rattle.crossterm_read.specs.Scripted.{AnswersWith}
 
--- What a source answers if its device answers without bytes: the end of input, a size, a wake-up, nothing, or an error.
+-- The answer of a source if its device answers without bytes: the end of input, a size, a wake-up, nothing, or an error.
 abbrev pub IsAnsweredBy : DeviceAnswer → SourceAnswer → Type 0
 IsAnsweredBy (Bytes [] raw) x = x ≡ Failed UnexpectedEof
 IsAnsweredBy (Bytes (b ∷ bs) raw) x = ⊥
@@ -25,7 +25,7 @@ IsAnsweredBy (Fault kind) x = x ≡ Failed kind
 abbrev pub is_pasting : List Marked → Bool
 is_pasting undecided = begins paste_start (bytes_of undecided)
 
--- What one answer of a device makes.
+-- An outcome, which one answer of a device makes.
 pub data Outcome : Type 0 where
   -- The events that end in its bytes, and whether a paste is open after them.
   Ended : List Seen → Bool → Outcome
@@ -66,7 +66,7 @@ TakenLate (Gave x ∷ xs) = ⊥
 TakenLate (Nothing ∷ xs) = xs ≡ []
 TakenLate (Failed kind ∷ xs) = (kind ≡ OutOfMemory) × TakenLate xs
 
--- What a source answers for events: each once, in order, and before each any number of refusals of memory.
+-- The answers of a source for events: each once, in order, and before each any number of refusals of memory.
 abbrev pub Delivers : Bool → List Seen → List SourceAnswer → Type 0
 Delivers pasting [] [] = Unit {0}
 Delivers pasting [] (x ∷ xs) = (pasting ≡ true) × TakenLate (x ∷ xs)
@@ -75,12 +75,12 @@ Delivers pasting (e ∷ es) (Gave x ∷ xs) = (x ≡ e) × Delivers pasting es x
 Delivers pasting (e ∷ es) (Nothing ∷ xs) = ⊥
 Delivers pasting (e ∷ es) (Failed kind ∷ xs) = (kind ≡ OutOfMemory) × Delivers pasting (e ∷ es) xs
 
--- What a source answers for bytes. If they end no event it is nothing, once, or an open paste's bytes are taken late.
+-- The answers of a source for bytes. If they end no event it is nothing, once, or an open paste's bytes are taken late.
 abbrev pub DeliversBytes : Bool → List Seen → List SourceAnswer → Type 0
 DeliversBytes pasting [] xs = (xs ≡ Nothing ∷ []) ⊎ ((pasting ≡ true) × TakenLate xs)
 DeliversBytes pasting (e ∷ es) xs = Delivers pasting (e ∷ es) xs
 
--- What a source answers for outcomes, in order. No outcome is left out.
+-- The answers of a source for outcomes, in order. No outcome is left out.
 abbrev pub DeliversAll : List Outcome → List SourceAnswer → Type 0
 DeliversAll [] xs = xs ≡ []
 DeliversAll (Single x ∷ bs) xs = (rest : List SourceAnswer) × (xs ≡ x ∷ rest) × DeliversAll bs rest
@@ -95,7 +95,7 @@ pub record Answered (device_answers : List DeviceAnswer) (list : List SourceAnsw
   pub outcomes : List Outcome
   -- The bytes that end no sequence yet.
   pub undecided : List Marked
-  -- What the source still has to answer.
+  -- The answers that the source still owes.
   pub more : List SourceAnswer
   pub answering : AnswersWith device_answers answered left
   pub happens : Happens [] answered outcomes undecided

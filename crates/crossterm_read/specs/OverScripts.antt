@@ -1,4 +1,4 @@
--- What a history of a shared reader over a script amounts to.
+-- Histories of a shared reader over a script.
 use Rattle.std.specs.Prelude.{◌≡◌, List, []}
 use Rattle.crossterm_parse.specs.View.{Represents}
 use Rattle.crossterm_read.specs.Answers.{SourceAnswer}
@@ -15,7 +15,7 @@ pub record IsNew {D : Type 0} (s : Source D) : Type 0 where
   pub represents : Represents s.parser []
   pub untaken : s.untaken ≡ []
 
--- What a new source over a script answers follows from the script's answers.
+-- The answers of a new source over a script follow from those of the script.
 abbrev pub ScriptsReplay : Type 0
 ScriptsReplay = (s t : Source ScriptLeft) (xs : List SourceAnswer) → IsNew s → SourceDrawn ScriptAnswers s xs t → Answered s.device.left xs
 

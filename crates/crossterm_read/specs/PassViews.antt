@@ -1,4 +1,4 @@
--- What a clause says of a pass.
+-- A pass, as clauses see it.
 use Rattle.std.specs.Prelude.{◌≡◌, ℕ, false}
 use Rattle.crossbeam_queue.specs.Passes.{view}
 use Rattle.crossbeam_queue.specs.declared.array_queue.Slotted.{Slotted}
@@ -6,7 +6,7 @@ use Rattle.crossterm_read.specs.History.{Known}
 use Rattle.crossterm_read.specs.declared.read.shared.pass.Pass.{Pass}
 
 module _ {S A : Type 0} where
-  -- What the pass knows.
+  -- The knowledge of the pass.
   abbrev pub knows : Pass S A → Known S
   knows p = view p.slot_pass
 

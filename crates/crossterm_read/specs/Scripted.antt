@@ -1,4 +1,4 @@
--- What a script answers.
+-- The answers of a script.
 use Rattle.std.specs.Prelude.{◌≡◌, ℕ, ◌+◌, zero, suc, Bool, true, false, List, [], ◌∷◌, ◌++◌, length, take, drop, map, refl}
 use Rattle.std.specs.List.{count_by}
 use Rattle.std.proofs.Common.{subst, sym, ap, ◌∙◌, add-zero, add_assoc}

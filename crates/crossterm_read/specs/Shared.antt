@@ -1,4 +1,4 @@
--- What a clause says of a shared reader and of its passes.
+-- A shared reader and its passes, as clauses see them.
 use Rattle.std.specs.Prelude.{◌≡◌}
 use Rattle.std.specs.Arc.{arc_value}
 use Rattle.crossterm_read.specs.PassViews.{IsInSlot}

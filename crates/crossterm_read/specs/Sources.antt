@@ -1,4 +1,4 @@
--- What a source answers, turn by turn, by what its device answers.
+-- The answers of a source, turn by turn, by those of its device.
 use Rattle.std.specs.Prelude.{◌≡◌, ◌≢◌, ℕ, Bool, false, List, [], ◌∷◌, ◌++◌, take, refl}
 use Rattle.std.specs.List.{AllByRecursion, filter_map}
 use Rattle.std.specs.declared.io.ErrorKind.TheVariants.{OutOfMemory}
@@ -14,7 +14,7 @@ use Rattle.crossterm_read.specs.Answers.{SourceAnswer, Gave, Nothing, Failed}
 use Rattle.crossterm_read.specs.Device.{DeviceAnswer, Bytes, marked_bytes}
 use Rattle.crossterm_read.specs.Outcomes.{IsAnsweredBy, is_pasting}
 
--- What a source has at hand.
+-- The state of a source: what it has at hand.
 pub record At : Type 0 where
   -- The events that wait.
   pub waiting : List Seen
@@ -82,7 +82,7 @@ pub record Source (D : Type 0) : Type 0 where
   pub untaken : List Marked
   pub device : D
 
--- What a source has at hand behind these undecided bytes.
+-- The state of a source behind these undecided bytes.
 abbrev pub at : {D : Type 0} → Source D → List Marked → At
 at s before = record { waiting = s.parser.waiting; untaken = s.untaken; undecided = before; room = s.parser.room }
 

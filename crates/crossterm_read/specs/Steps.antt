@@ -1,4 +1,4 @@
--- What one call of a reader does.
+-- One call of a reader, as a step.
 use Rattle.std.specs.Prelude.{◌≡◌, ◌≢◌, ◌⊎◌, ◌+◌, ◌≤◌, ℕ, Bool, true, false, List, [], ◌∷◌, ◌++◌, length, Option, Some, None, Result, Ok, Err, slice_index_or, position, remove, is_some}
 use Rattle.std.specs.List.{AllByRecursion}
 use Rattle.std.specs.declared.io.ErrorKind.{ErrorKind}
@@ -61,7 +61,7 @@ pub record Fails (wake : AtWake) (f : Seen → Bool) (kind : ErrorKind) (zs : Li
   pub passed : AllByRecursion (Passes wake f) before
   pub stops : wake ≡ GoesOn → kind ≢ Interrupted
 
--- What the source answers in a call, and how that ends. It is true if an admitted event is there, and false if the
+-- The source's answers in a call, and how asking ends. It is true if an admitted event is there, and false if the
 -- tries or the time are used up. If an admitted event is held, the source isn't asked. Memory for an event may be
 -- refused first.
 abbrev pub Asks : AtWake → (Seen → Bool) → Patience → List (Seen × ℕ) → List SourceAnswer → Result Bool ErrorKind → Type 0
@@ -71,7 +71,7 @@ Asks wake f patience held zs (Ok false) = (first_admitted f held ≡ None) × Al
 Asks wake f patience held zs (Err kind) = (first_admitted f held ≡ None)
     × ((Fails wake f kind zs × Allows patience (length zs)) ⊎ ((kind ≡ OutOfMemory) × AllByRecursion (Passes wake f) zs × Allows patience (length zs + 1)))
 
--- What a poll returns, by how asking ended. After a wake-up it returns false.
+-- The result of a poll, by how asking ended. After a wake-up it returns false.
 abbrev pub PollReplies : Result Bool ErrorKind → Result Bool ErrorKind → Type 0
 PollReplies (Ok is_there) r = r ≡ Ok is_there
 PollReplies (Err kind) r = ((kind ≡ Interrupted) × (r ≡ Ok false)) ⊎ ((kind ≢ Interrupted) × (r ≡ Err kind))
@@ -81,7 +81,7 @@ abbrev pub TakeReplies : (Seen → Bool) → EventStore → EventStore → Optio
 TakeReplies f s t None = (first_admitted f s.held ≡ None) × (t ≡ s)
 TakeReplies f s t (Some x) = (i : ℕ) × (first_admitted f s.held ≡ Some i) × (slice_index_or s.held i x ≡ x) × (t ≡ record s { held = remove s.held i })
 
--- What a read takes and returns, by how asking ended.
+-- The event that a read takes and returns, by how asking ended.
 abbrev pub ReadReplies : (Seen → Bool) → Result Bool ErrorKind → EventStore → EventStore → Replied → Type 0
 ReadReplies f (Ok true) s t r = (x : Option (Seen × ℕ)) × TakeReplies f s t x × (r ≡ ToTake x)
 ReadReplies f (Ok false) s t r = (t ≡ s) × (r ≡ ToTake None)

@@ -1,4 +1,4 @@
--- What a stream returns, and what its worker does.
+-- The results of a stream, and the work of its worker.
 use Rattle.std.specs.Prelude.{◌≡◌, ◌⊎◌, List, [], ◌∷◌, Option, None, Result, IsErr}
 use Rattle.std.specs.declared.io.Error.{Error}
 use Rattle.std.specs.declared.time.Duration.{Duration}

@@ -1,4 +1,4 @@
--- What style commands do to the look, by names: they print, and set colours and attributes.
+-- The acts of style commands on the look, by names: they print, and set colours and attributes.
 use Rattle.std.specs.Prelude.{ℕ, ◌==◌, Bool, true, false, List, [], ◌∷◌, ◌++◌, Option, Some, None, map, if◌then◌else◌}
 use Rattle.crossterm_command.specs.declared.color_output.ColorOutput.{ColorOutput}
 use Rattle.crossterm_command.specs.declared.color_output.ColorOutput.TheVariants.{Enabled, Disabled}
@@ -16,7 +16,7 @@ use Rattle.crossterm_style.specs.Looks.Blink.{Slow, Rapid}
 use Rattle.crossterm_style.specs.Looks.ColorPlace.{Foreground, Background, Underlining}
 use Rattle.crossterm_style.specs.Looks.Underline.{Straight, Double, Curled, Dotted, Dashed}
 
--- What a style command does.
+-- The act of a style command.
 pub data StyleAct : Type 0 where
   -- Characters are printed.
   Prints : List ℕ → StyleAct

@@ -1,4 +1,4 @@
--- What is written for style commands shows as these commands paint.
+-- The text that is written for style commands shows as these commands paint.
 use Rattle.std.specs.Prelude.{◌≡◌, ◌≢◌, ℕ, ⊤, ◌⊎◌, ◌↔◌, List, [], ◌∷◌, ◌++◌, Option, Some, None, true, codes}
 use Rattle.std.specs.List.{AllByRecursion}
 use Rattle.crossterm_command.specs.Tokens.{Token}

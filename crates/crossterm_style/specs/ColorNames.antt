@@ -31,15 +31,15 @@ names =
 abbrev pub NamesIn : List (List ℕ × Color) → List ℕ → Color → Type 0
 NamesIn table text c = Contains table (str_to_ascii_lowercase text, c)
 
--- The text, in small ASCII letters, is no name in the table.
+-- No colour has this name in the table, if large and small letters of ASCII count as the same.
 abbrev pub NamesNoneIn : List (List ℕ × Color) → List ℕ → Type 0
 NamesNoneIn table text = (c : Color) → NamesIn table text c → ⊥
 
--- The text, in small ASCII letters, is the name of the colour.
+-- The colour has this name, if large and small letters of ASCII count as the same.
 abbrev pub Names : List ℕ → Color → Type 0
 Names text c = NamesIn names text c
 
--- The text, in small ASCII letters, is no colour's name.
+-- No colour has this name, if large and small letters of ASCII count as the same.
 abbrev pub NamesNone : List ℕ → Type 0
 NamesNone text = NamesNoneIn names text
 

@@ -63,7 +63,7 @@ plain = record {
   overlined = false;
 }
 
--- What a colour is for.
+-- The part of a look that a colour is for.
 pub data ColorPlace : Type 0 where
   Foreground : ColorPlace
   Background : ColorPlace

@@ -43,7 +43,8 @@ is_of classes (seen.KeyboardFlags flags) = classes.flags
 is_of classes seen.PrimaryDeviceAttributes = classes.attributes
 is_of classes _ = classes.event
 
--- The classes of events that a filter admits.
+-- The classes of events that a filter admits. A filter of flags also admits attributes: a terminal without the protocol
+-- replies with those alone.
 abbrev pub classes_of : AnyFilter → Classes
 classes_of Event = record { event = true; cursor = false; flags = false; attributes = false }
 classes_of Cursor = record { event = false; cursor = true; flags = false; attributes = false }

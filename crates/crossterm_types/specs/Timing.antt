@@ -18,7 +18,7 @@ Reaches (Some limit) time = as_nanos limit ≤ time
 abbrev pub HasElapsed : PollTimeout → ℕ → Type 0
 HasElapsed timeout now = Reaches timeout.limit (gone timeout now)
 
--- What is left of the limit, in nanoseconds: the limit less the time gone, at least 0. Nothing without a limit.
+-- The time that is left of the limit, in nanoseconds: the limit less the time gone, at least 0. Nothing without a limit.
 abbrev pub left_over : PollTimeout → ℕ → Option ℕ
 left_over timeout now = option_map (λ limit. as_nanos limit - gone timeout now) timeout.limit
 

@@ -24,7 +24,7 @@
 //! | `Variants` | 108 | the variants of enums by their names | |
 //! | `Ranks` | 98 | the declared orders | `event::laws::{declared_orders, declared_orders_of_events}` |
 //! | `Names` | 51 | the names that keys show as | `Display` of `KeyCode` and its like |
-//! | `Admitting` | 51 | which events a filter admits | `Filter::{eval, classes}` |
+//! | `Admitting` | 52 | which events a filter admits | `Filter::{eval, classes}` |
 //! | `Timing` | 31 | limits of time | `PollTimeout` |
 //! | `Values` | 178 | events as JSON | `to_value` and `from_value` of each |
 //!

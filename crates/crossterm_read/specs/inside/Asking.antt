@@ -1,4 +1,4 @@
--- What one question of a source comes to, and many until one is answered.
+-- The outcome of one question to a source, and of many until one is answered.
 use Rattle.std.specs.Prelude.{◌≡◌, ◌≢◌, ◌<◌, ℕ, Bool, true, false, List, [], ◌∷◌, ◌++◌, Result, Ok, Err, Option, Some, None, IfErr}
 use Rattle.std.specs.IoError.{error_kind}
 use Rattle.std.specs.declared.io.Error.{Error}
@@ -23,7 +23,7 @@ use Rattle.crossterm_types.specs.declared.event.timeout.PollTimeout.{PollTimeout
 use Rattle.crossterm_read.specs.Device.{AsksWith}
 use Rattle.crossterm_read.specs.inside.Numbers.{IsOrderly}
 
--- What is held with one event more.
+-- The held events with one more.
 abbrev pub held_with : EventStore → Seen × ℕ → EventStore
 held_with s x = record s { held = s.held ++ x ∷ [] }
 
@@ -55,7 +55,7 @@ abbrev pub Asked : {S A : Type 0} → (S → List SourceAnswer → S → Type 0)
 Asked drawn failed wake f patience s t result = (zs : List SourceAnswer) × drawn s.source zs t.source × Arrives s.store zs (all_of t.store result) × Asks wake f patience s.store.held zs (end_of result)
     × IfErr result (λ e. RefusedOnlyWithoutRoom s.room zs (error_kind e)) × IsSteady failed s.source zs t.source × WouldGiveFirst f t.store result
 
--- What one question of the source led to, after room for one event was made. An admitted event isn't held.
+-- The outcome of one question to the source, after room for one event was made. An admitted event isn't held.
 abbrev pub DrawsOne : {S A : Type 0} → (S → List SourceAnswer → S → Type 0) → (S → ℕ) → AtWake → (Seen → Bool) → ReaderState S → ReaderState S → Once A → Type 0
 DrawsOne drawn failed wake f s t once.Refused = t ≡ s
 DrawsOne drawn failed wake f s t (once.Broke e) = drawn s.source (Failed (error_kind e) ∷ []) t.source × Arrives s.store (Failed (error_kind e) ∷ []) t.store × (wake ≡ GoesOn → error_kind e ≢ Interrupted)

@@ -33,7 +33,7 @@ module _ {A : Type 0} where
   abbrev pub of_kind : Kind → List (Member A) → List (Member A)
   of_kind kind ms = filter (λ m. same_kind kind (kind_of m.event)) ms
 
-  -- What is at these places and behind them.
+  -- The events at these places and behind them.
   abbrev pub behind : (Kind → List (Member A)) → Places → Kind → List (Member A)
   behind q at kind = drop (queue_place at kind) (q kind)
 
@@ -124,7 +124,7 @@ abbrev pub HaveRoomFor : {A : Type 0} → Option (Queues A) → ℕ → Type 0
 HaveRoomFor None n = n ≡ 0
 HaveRoomFor (Some q) n = HaveRoom q n
 
--- What holds of the queues between two calls: one order, below the next order number, and room for so many events in
+-- The invariant of the queues between two calls: one order, below the next order number, and room for so many events in
 -- each.
 pub record AreKept {A : Type 0} (queues : Option (Queues A)) (len limit next : ℕ) : Type 0 where
   pub joins : AreJoined (queues_of queues)

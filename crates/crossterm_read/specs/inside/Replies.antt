@@ -1,4 +1,4 @@
--- What private calls reply.
+-- The replies of private calls.
 use Rattle.std.specs.Prelude.{ℕ, false, List, Option, Some, None, Result, Ok, Err}
 use Rattle.std.specs.Option.{option_map}
 use Rattle.std.specs.IoError.{error_kind}
@@ -17,7 +17,7 @@ use Rattle.crossterm_read.specs.Steps.{Patience}
 use Rattle.crossterm_read.specs.Store.{ReaderState}
 use Rattle.crossterm_read.specs.Waiting.{AsksWithin}
 
--- What was taken, as a clause sees it.
+-- The event that was taken, as a clause sees it.
 abbrev pub kept : {A : Type 0} → Taken (InternalEvent A) → Seen × ℕ
 kept taken = (seen taken.event, taken.number)
 
@@ -40,13 +40,13 @@ last_tried n (Ok (Some taken)) = Some taken.number
 last_tried n (Ok None) = n
 last_tried n (Err e) = n
 
--- What a query for the keyboard's flags gives, with the number of what it took last.
+-- The result of a query for the keyboard's flags, with the number of what it took last.
 abbrev pub flags_said : Result (Taken (Option KeyboardEnhancementFlags)) Error → Said
 flags_said (Ok taken) = Came (Some (flags_seen taken.event))
 flags_said (Err e) = Faulted (error_kind e)
 
 module _ {A : Type 0} where
-  -- What a read within a limit is to the history: a read that took an event, or a poll that found none.
+  -- The entry of a read within a limit in the history: a read that took an event, or a poll that found none.
   abbrev pub request_within : Patience → AnyFilter → Result (Option (Taken (InternalEvent A))) Error → Request
   request_within patience f (Ok (Some taken)) = Read patience f
   request_within patience f (Ok None) = Poll patience f

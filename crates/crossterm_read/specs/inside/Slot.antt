@@ -32,7 +32,7 @@ abbrev pub taught : {S : Type 0} → Known S → Known S → Known S
 taught v w = record v { seen = longer v.seen w.seen; met = Some (record { other = w.number; theirs = w.seen; ours = v.seen }) }
 
 module _ {S : Type 0} (drawn : S → List SourceAnswer → S → Type 0) where
-  -- What the history is to one pass.
+  -- The history, as one pass sees it.
   pub record Agrees (o : ReaderState S) (passes : ℕ) (log : List Entry) (by : ℕ) (v : Known S) : Type 0 where
     pub number : v.number ≡ by
     pub passes_so : v.passes ≡ passes
@@ -80,7 +80,7 @@ module _ {S : Type 0} (drawn : S → List SourceAnswer → S → Type 0) where
   abbrev pub SlotRule : List (ReaderState S) → List (Known S) → Type 0
   SlotRule items views = ((items ≡ []) × (views ≡ newcomer ∷ [])) ⊎ Open items views
 
-  -- What a take promises: the pass has seen the whole history, and has the reader as that left it.
+  -- A take promises this: the pass has seen the whole history, and has the reader as that left it.
   pub record Took (v : Known S) (x : ReaderState S) (w : Known S) : Type 0 where
     pub opening : ReaderState S
     pub between : List Entry
@@ -92,7 +92,7 @@ module _ {S : Type 0} (drawn : S → List SourceAnswer → S → Type 0) where
     pub callers : are_of v.passes (v.seen ++ between) ≡ true
     pub after : w ≡ record v { seen = v.seen ++ between; has = true }
 
-  -- What a put requires: the pass has the reader, and one such call led from the state that the history left to the
+  -- A put requires this: the pass has the reader, and one such call led from the state that the history left to the
   -- reader's.
   pub record ProducesCall (made : ReaderState S → Entry → ReaderState S → Type 0) (v : Known S) (x : ReaderState S) : Type 0 where
     pub opening : ReaderState S
@@ -105,11 +105,11 @@ module _ {S : Type 0} (drawn : S → List SourceAnswer → S → Type 0) where
     pub runs : Runs drawn opening v.seen found
     pub makes : Makes drawn call found x
 
-  -- What a put promises: the call is the last one of the history, and of its pass.
+  -- A put promises this: the call is the last one of the history, and of its pass.
   abbrev pub Put : (ReaderState S → Entry → ReaderState S → Type 0) → Known S → ReaderState S → Known S → Type 0
   Put made v x w = (b : ProducesCall made v x) × (w ≡ record v { seen = v.seen ++ b.call ∷ []; mine = v.mine ++ b.call ∷ []; has = false })
 
-  -- What a pass knows after it met another.
+  -- The knowledge of a pass after it met another.
   pub record Learnt (v : Known S) : Type 0 where
     pub opening : ReaderState S
     pub left : ReaderState S
