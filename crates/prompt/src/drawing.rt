@@ -243,13 +243,18 @@ impl Row {
     ///
     /// Some terminals wrap a row anew if the window becomes narrower, others cut it. In the last column the cursor may be by either.
     pub(crate) fn rows_above(&self, columns: u16, column: u16) -> u16 {
-        let (rows, wrapped) = wrapped(&self.buffer, self.column, columns);
-        let is_last = column >= columns.saturating_sub(1);
-        if wrapped == column && !is_last {
-            rows
-        } else {
-            0
+        if column >= columns.saturating_sub(1) {
+            return 0;
         }
+        // A terminal that keeps no blanks at a row's end brings a cursor behind them to the end of what it keeps.
+        let kept = self.column.min(kept(&self.buffer));
+        for count in [self.column, kept] {
+            let (rows, wrapped) = wrapped(&self.buffer, count, columns);
+            if wrapped == column {
+                return rows;
+            }
+        }
+        0
     }
 
     /// What leaves the row, for who is done with it: the cursor goes to the start of the next one, and a hint is erased before.
@@ -282,6 +287,19 @@ impl Row {
     {
         write_flushed(out, self.leaving())
     }
+}
+
+/// How many cells there are up to the last one that isn't blank.
+fn kept(buffer: &Buffer) -> u16 {
+    let mut count = 0u16;
+    let mut last = 0u16;
+    for cell in buffer.cells() {
+        count = count.saturating_add(1);
+        if cell.symbol() != ' ' {
+            last = count;
+        }
+    }
+    last
 }
 
 /// The row and the column behind so many cells, if they are wrapped to so many columns.

@@ -43,6 +43,13 @@ const DRAWN: &[u8] =
 
 const ENDED: Comes = Comes::Line(X50);
 
+/// A text that ends in five blanks, as it is pasted.
+const BLANKS: &[u8] = b"\x1b[200~xxxxxxxxxxxxxxxxxxxxxxxxxxxxxxxxxxxxxxxxxxxxx     \x1b[201~";
+
+/// The empty line, and that text.
+const BLANKS_DRAWN: &[u8] =
+    b"\x1b[?2026h\x1b[0m\x1b[1G\x1b[K\x1b[0m\x1b[1G\x1b[?25h\x1b[?2026l\x1b[?2026h\x1b[1G\x1b[0mxxxxxxxxxxxxxxxxxxxxxxxxxxxxxxxxxxxxxxxxxxxxx\x1b[0m\x1b[51G\x1b[?25h\x1b[?2026l";
+
 const ROWS: &[Row] = &[
     // The row was wrapped to two, and the cursor is in the second: it goes up.
     Row {
@@ -181,6 +188,40 @@ fn a_resize_leaves_nothing_behind(rt: HostRuntime) -> io::Result<()> {
     for row in ROWS {
         expect!(rt; is_so(&rt, rt.alloc(), row, usize::MAX, row.comes)?);
     }
+    Ok(())
+}
+
+/// Whether these bytes are written behind such a text in a window of 40 columns, by the place that the terminal reports for the cursor.
+fn is_written_behind_blanks<R: Wait>(
+    rt: &R,
+    alloc: Global,
+    said: &'static [u8],
+    written: &[u8],
+) -> io::Result<bool> {
+    let calls = AtomicU32::new(0);
+    let acts = Vec::from_array(
+        alloc,
+        [
+            text(alloc, BLANKS)?,
+            Act::Resize(40, 10),
+            text(alloc, said)?,
+        ],
+    )?;
+    let term = narrowing_by(RawFlag::new(alloc)?, &calls, 40);
+    let out = Witness::new(alloc, usize::MAX, ErrorKind::BrokenPipe);
+    let mut tty = Session::over(rt, alloc, Script::new(acts), term, out, Still)?;
+    let mut editor = Editor::new(alloc, Limits::default())?;
+    let read = Prompt::new("").read_line(rt, &mut tty, &mut editor);
+    Ok(came(read, Comes::Interrupted) && tty.out.has_both(BLANKS_DRAWN, written))
+}
+
+#[test]
+fn a_terminal_that_keeps_no_blanks_leaves_no_row(rt: HostRuntime) -> io::Result<()> {
+    // The cursor is behind what was kept of the second row, or behind its blanks.
+    const UP: &[u8] =
+        b"\x1b[6n\x1b[1A\x1b[1G\x1b[J\x1b[?2026h\x1b[0m\x1b[1G\x1b[K\x1b[1G\x1b[0mxxxxxxxxxxxxxxxxxxxxxxxxxxxxxxxxx\x1b[0m\x1b[39G\x1b[?25h\x1b[?2026l\r\n";
+    expect!(rt; is_written_behind_blanks(&rt, rt.alloc(), b"\x1b[2;6R\x03", UP)?);
+    expect!(rt; is_written_behind_blanks(&rt, rt.alloc(), b"\x1b[2;11R\x03", UP)?);
     Ok(())
 }
 
