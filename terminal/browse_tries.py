@@ -43,7 +43,7 @@ def browse_here():
 
 def window_without_a_size():
     """A window of 0 by 0 counts as what `tput` says, 80 by 24."""
-    for name, typed, shown in (('edit', b'abc\x03', b'\x1b[5G\x1b[0mc'), ('browse', b'\x1b', '\x1b[13;1H│VPA'.encode())):
+    for name, typed, shown in (('edit', b'abc\x03', b'abc'), ('browse', b'\x1b', '\x1b[13;1H│VPA'.encode())):
         terminal = Terminal(f'{WITH} {program(name)}', size=(0, 0))
         try:
             terminal.until({'edit': b'>\x1b[0m\x1b[3G', 'browse': b'CBT'}[name])

@@ -7,7 +7,7 @@ import time
 from debug_lines import rows_in
 from pseudo import WITH, Terminal, Wrong, equal, program, tmux
 
-# How a line's first frame begins, and what erases the rows below before it, after a resize. Later ones have what changed.
+# How a line's first frame begins, and what erases the rows below before it, after a resize. Later ones are what changed alone.
 FIRST = b'\x1b[?2026h\x1b[0m\x1b[1G\x1b[K'
 ERASED = b'\x1b[1G\x1b[J'
 
@@ -31,12 +31,12 @@ def edit_keeps_the_order():
         terminal.send(b'\r')
         terminal.until('7: YaXbc\u00e9\u6f22'.encode())
         terminal.send(b'next')
-        terminal.until(b'\x1b[6G\x1b[0mt' + ended(7))
+        terminal.until(b'next')
         # A new size: the terminal is asked again.
         terminal.resize(40, 24)
         terminal.until(b'\x1b[6n', times=2)
         terminal.send(b'\x1b[6;7R')
-        terminal.until(b'\x1b[6n' + ERASED + FIRST + b'\x1b[1G\x1b[0m>\x1b[3Gnext' + ended(7))
+        terminal.until(b'\x1b[6n' + ERASED + FIRST + b'\x1b[1G\x1b[0m> next' + ended(7))
         terminal.send(b'!\r')
         terminal.until(b'5: next!')
         terminal.send(b'\x03')
@@ -116,9 +116,9 @@ def edit_without_answers():
             terminal.until(b'%d: %s\r\n' % (len(word), word))
             equal(f'{word!r} within a second', time.time() - start < 1, True)
         terminal.send(b'more')
-        terminal.until(b'\x1b[6G\x1b[0me' + ended(7))
+        terminal.until(b'more')
         terminal.resize(40, 24)
-        terminal.until(ERASED + FIRST + b'\x1b[1G\x1b[0m>\x1b[3Gmore' + ended(7), limit=1)
+        terminal.until(ERASED + FIRST + b'\x1b[1G\x1b[0m> more' + ended(7), limit=1)
         terminal.send(b'\x03')
         equal('status', terminal.end(), 0)
         equal('questions for the place', terminal.out.count(b'\x1b[6n'), 1)
@@ -132,12 +132,12 @@ def edit_after_a_resize():
     """A window of other widths: by the cursor's place then, the terminal has wrapped the line anew, or cut it, or it isn't known."""
     terminal = Terminal(f'{WITH} {program("edit")}')
     text = b'x' * 90
-    shown = lambda columns: ERASED + FIRST + b'\x1b[1G\x1b[0m>\x1b[3G' + text[: columns - 4] + b'\x1b[0m'
+    shown = lambda columns: ERASED + FIRST + b'\x1b[1G\x1b[0m> ' + text[: columns - 4] + b'\x1b[0m'
     try:
         terminal.until(b'\x1b[K')
         terminal.send(text)
-        # The last 14 scroll a text that looks the same.
-        terminal.until(b'\x1b[78G\x1b[0mx' + ended(79) + (b'\x1b[?2026h' + ended(79)) * 14)
+        # A letter is a byte. The last 14 scroll a text that looks the same.
+        terminal.until(b'x' * 76)
         # The window's columns, the cursor's column in it, and what moves up to the line's first row.
         for columns, column, up in ((60, 19, b'\x1b[1A'), (50, 50, b''), (20, 9, b'\x1b[2A'), (39, 19, b''), (12, 1, b''), (100, 11, b'')):
             terminal.place = (5, column)

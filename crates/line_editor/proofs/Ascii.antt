@@ -5,7 +5,7 @@ use Rattle.std.proofs.lemmas.List.{drop_more, reverse-append}
 use Rattle.std.proofs.lemmas.Grind.{take_at_read}
 use Rattle.std.proofs.lemmas.Str.{chars-append, chars_past_char, chars-IsAscii, encode_ascii, IsCharBoundary-before_ascii, IsUtf8-drop, IsUtf8-take}
 use Rattle.std.specs.Prelude.{Bool, not, map, Option, Some, None, unwrap_or, zero, suc}
-use Rattle.std.specs.Str.{chars, IsUtf8, IsCharBoundary}
+use Rattle.std.specs.Str.{chars, IsUtf8}
 use Rattle.ucd_table.proofs.Facts.{Stepped-below}
 use Rattle.ucd_breaks.specs.GraphemeClusterBreak.{grapheme_cluster_break}
 use Rattle.ucd_breaks.specs.declared.GraphemeClusterBreak.{GraphemeClusterBreak}
@@ -120,22 +120,31 @@ ascii-one : (c : ℕ) → c < 128 → (i : ℕ) → slice_index (c ∷ []) i < 1
 ascii-one c below zero = below
 ascii-one c below (suc i) = lit< tt
 
+-- A character of ASCII is one byte of a text.
+pub from-byte : (text : List ℕ) (at : ℕ) → IsUtf8 text → at < length text → get_or text at 0 < 128
+    → chars_from text at ≡ get_or text at 0 ∷ chars_from text (at + 1)
+from-byte text at u inside below =
+    let c = get_or text at 0 in
+    chars_past_char (drop at text) (drop (at + 1) text) c (IsUtf8-drop text at u (IsCharBoundary-before_ascii text at inside below))
+    (drop_more text at 0 inside ∙ ap (λ t. t ++ drop (at + 1) text) (sym (encode_ascii c below)))
+
+pub before-byte : (text : List ℕ) (at : ℕ) → IsUtf8 text → at < length text → get_or text at 0 < 128
+    → chars_before text (at + 1) ≡ get_or text at 0 ∷ chars_before text at
+before-byte text at u inside below =
+    let c = get_or text at 0 in
+    ap (λ t. reverse (chars t)) (take_at_read text at 0 inside).1
+    ∙ ap reverse (chars-append (take at text) (c ∷ []) (IsUtf8-take text at u (IsCharBoundary-before_ascii text at inside below))
+    ∙ ap (λ t. chars (take at text) ++ t) (chars-IsAscii (c ∷ []) (ascii-one c below)))
+    ∙ reverse-append (chars (take at text)) (c ∷ [])
+
 -- The same of a text's bytes around a place.
-pub between-bytes : (text : List ℕ) (at : ℕ) → IsUtf8 text → IsCharBoundary text at → 0 < at → at < length text
+pub between-bytes : (text : List ℕ) (at : ℕ) → IsUtf8 text → 0 < at → at < length text
     → get_or text (at - 1) 0 < 128 → get_or text at 0 < 128 → (get_or text at 0 ≡ 10 → ⊥) → is_between (chars_before text at) (chars_from text at) ≡ true
-between-bytes text at u b positive inside la lb other =
+between-bytes text at u positive inside la lb other =
     let x = get_or text (at - 1) 0 in
     let y = get_or text at 0 in
-    let cut = IsCharBoundary-before_ascii text (at - 1) (omega (arith, positive, inside)) la in
-    let after : chars_from text at ≡ y ∷ chars (drop (at + 1) text) =
-    chars_past_char (drop at text) (drop (at + 1) text) y (IsUtf8-drop text at u b)
-    (drop_more text at 0 inside ∙ ap (λ t. t ++ drop (at + 1) text) (sym (encode_ascii y lb))) in
     let back : at ≡ (at - 1) + 1 = omega (arith, positive) in
-    let front : take at text ≡ take (at - 1) text ++ x ∷ [] =
-    ap (λ n. take n text) back ∙ (take_at_read text (at - 1) 0 (omega (arith, positive, inside))).1 in
-    let before : chars_before text at ≡ x ∷ reverse (chars (take (at - 1) text)) =
-    ap (λ t. reverse (chars t)) front
-    ∙ ap reverse (chars-append (take (at - 1) text) (x ∷ []) (IsUtf8-take text (at - 1) u cut) ∙ ap (λ t. chars (take (at - 1) text) ++ t) (chars-IsAscii (x ∷ []) (ascii-one x la)))
-    ∙ reverse-append (chars (take (at - 1) text)) (x ∷ []) in
-    ap (λ t. is_between t (chars_from text at)) before ∙ ap (λ t. is_between (x ∷ reverse (chars (take (at - 1) text))) t) after
-    ∙ ascii-between x y (reverse (chars (take (at - 1) text))) (chars (drop (at + 1) text)) la lb other
+    let before : chars_before text at ≡ x ∷ chars_before text (at - 1) =
+    ap (chars_before text) back ∙ before-byte text (at - 1) u (omega (arith, positive, inside)) la in
+    ap (λ t. is_between t (chars_from text at)) before ∙ ap (λ t. is_between (x ∷ chars_before text (at - 1)) t) (from-byte text at u inside lb)
+    ∙ ascii-between x y (chars_before text (at - 1)) (chars_from text (at + 1)) la lb other

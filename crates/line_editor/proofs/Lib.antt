@@ -30,3 +30,4 @@ pub mod Inserting
 pub mod Changing
 pub mod Drafting
 pub mod Ascii
+pub mod Passing

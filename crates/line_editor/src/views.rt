@@ -1,9 +1,11 @@
 //! The part of a line that is seen in one row.
-ghost use Rattle.std.specs.Prelude.{◌≡◌, ◌<◌, ◌≤◌, ◌-◌, ℕ, length};
+ghost use Rattle.std.specs.Prelude.{◌≡◌, ◌<◌, ◌≤◌, ◌+◌, ◌-◌, ℕ, length, slice_index};
+ghost use Rattle.std.specs.List.{AllWithin};
 ghost use Rattle.std.specs.Str.{chars, IsCharBoundary};
 ghost use Rattle.unicode_segmentation.specs.Segments.{chars_before, chars_from};
 ghost use Rattle.line_editor.specs.Splits.{split_at};
 ghost use Rattle.line_editor.specs.Views.{columns_of, end_seen, last_seen, place_or, start, start_at, start_or};
+ghost use Rattle.line_editor.specs.inside.Ascii.{IsPrintable};
 
 use crate::places::{char_after, char_before, is_between};
 use unicode_width::UnicodeWidthChar;
@@ -13,6 +15,9 @@ pub(crate) fn columns_of(c: char) -> usize
     ensures value { result ≡ columns_of c }
     ensures few { result ≤ 3 }
 {
+    if matches!(c, ' '..='~') {
+        return 1;
+    }
     match c.width() {
         None => 0,
         Some(width) => width,
@@ -35,6 +40,26 @@ fn start_or(text: &str, start: (usize, usize), best: (usize, usize)) -> (usize, 
     }
 }
 
+/// How many printable characters of ASCII are right before a place. No more than `most` are counted.
+fn ascii_behind(text: &str, at: usize, most: usize) -> usize
+    requires { at ≤ length text.now }
+    ensures back { result ≤ at }
+    ensures few { result ≤ most }
+    ensures printable { AllWithin IsPrintable text.now (at - result) at }
+    ensures all { result < at → result < most → IsPrintable (slice_index text.now (at - result - 1)) → ⊥ }
+{
+    let bytes = text.as_bytes();
+    let mut count = 0;
+    while count < at && count < most {
+        let byte = bytes[at - count - 1];
+        if byte < b' ' || byte > b'~' {
+            return count;
+        }
+        count += 1;
+    }
+    count
+}
+
 /// The byte offset at which what is seen starts, and the columns from there to the cursor.
 pub(crate) fn start_seen(text: &str, at: usize, room: u16) -> (usize, usize)
     requires { IsCharBoundary text.now at }
@@ -48,14 +73,22 @@ pub(crate) fn start_seen(text: &str, at: usize, room: u16) -> (usize, usize)
     let mut used = 0usize;
     let mut best = (at, 0usize);
     while place > 0 {
-        let (begin, c) = char_before(text, place);
-        let more = used + columns_of(c);
-        if more > most {
-            return best;
+        let near = ascii_behind(text, place, most - used);
+        if near > 1 {
+            place -= near;
+            used += near;
+            // Each place between two of these characters is between clusters.
+            best = start_or(text, (place, used), (place + 1, used - 1));
+        } else {
+            let (begin, c) = char_before(text, place);
+            let more = used + columns_of(c);
+            if more > most {
+                return best;
+            }
+            best = start_or(text, (begin, more), best);
+            place = begin;
+            used = more;
         }
-        best = start_or(text, (begin, more), best);
-        place = begin;
-        used = more;
     }
     best
 }
@@ -71,6 +104,26 @@ fn place_or(text: &str, place: usize, best: usize) -> usize
     if is_between(text, place) { place } else { best }
 }
 
+/// How many printable characters of ASCII are right behind a place. No more than `most` are counted.
+fn ascii_ahead(text: &str, at: usize, most: usize) -> usize
+    requires { at ≤ length text.now }
+    ensures on { at + result ≤ length text.now }
+    ensures few { result ≤ most }
+    ensures printable { AllWithin IsPrintable text.now at (at + result) }
+    ensures all { at + result < length text.now → result < most → IsPrintable (slice_index text.now (at + result)) → ⊥ }
+{
+    let bytes = text.as_bytes();
+    let mut count = 0;
+    while count < bytes.len() - at && count < most {
+        let byte = bytes[at + count];
+        if byte < b' ' || byte > b'~' {
+            return count;
+        }
+        count += 1;
+    }
+    count
+}
+
 /// The byte offset at which what is seen ends, if so many columns are before the cursor.
 pub(crate) fn end_seen(text: &str, at: usize, column: usize, room: u16) -> usize
     requires boundary { IsCharBoundary text.now at }
@@ -84,14 +137,22 @@ pub(crate) fn end_seen(text: &str, at: usize, column: usize, room: u16) -> usize
     let mut used = column;
     let mut best = at;
     while place < text.len() {
-        let (c, end) = char_after(text, place);
-        let more = used + columns_of(c);
-        if more > most {
-            return best;
+        let near = ascii_ahead(text, place, most.saturating_sub(used));
+        if near > 1 {
+            place += near;
+            used += near;
+            // Each place between two of these characters is between clusters.
+            best = place_or(text, place, place - 1);
+        } else {
+            let (c, end) = char_after(text, place);
+            let more = used + columns_of(c);
+            if more > most {
+                return best;
+            }
+            best = place_or(text, end, best);
+            place = end;
+            used = more;
         }
-        best = place_or(text, end, best);
-        place = end;
-        used = more;
     }
     best
 }

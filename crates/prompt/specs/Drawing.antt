@@ -9,7 +9,7 @@ use Rattle.line_editor.specs.Splits.{Split}
 use Rattle.line_editor.specs.Views.{seen_text}
 use Rattle.screen.specs.Buffers.{Picture}
 use Rattle.screen.specs.Parts.{text_parts}
-use Rattle.screen.specs.Strips.{StripView, IsRowFrame, with_row}
+use Rattle.screen.specs.Strips.{StripView, IsNextFrame, IsRowFrame, with_row}
 use Rattle.screen.specs.Texts.{replaced, text_columns, within}
 
 -- Nothing is known of a row that has all columns of the window but the last one.
@@ -19,7 +19,12 @@ IsUnknown columns s = (s.width ≡ columns - 1) × (s.drawn ≡ None)
 -- One frame was written: the row shows the picture with the cursor in this column, and nothing else changes.
 abbrev pub IsDrawn : Picture → ℕ → StripView → StripView → Option (List ℕ) → Option (List ℕ) → Type 0
 IsDrawn p column s t old new =
-    (t ≡ with_row s Enabled p.cells) × (ts : List Token) × AppendsReading old new ts × IsRowFrame s Enabled p (Some column) ts
+    (t ≡ with_row s Enabled p.cells (Some column)) × (ts : List Token) × AppendsReading old new ts × IsRowFrame s Enabled p (Some column) ts
+
+-- The same for a frame right behind the last one, which may rely on the cursor's column after that.
+abbrev pub IsNextDrawn : Picture → ℕ → StripView → StripView → Option (List ℕ) → Option (List ℕ) → Type 0
+IsNextDrawn p column s t old new =
+    (t ≡ with_row s Enabled p.cells (Some column)) × (ts : List Token) × AppendsReading old new ts × IsNextFrame s Enabled p (Some column) ts
 
 -- A text is two parts, and another text begins with the second one.
 abbrev pub IsParted : List ℕ → List ℕ → List ℕ → List ℕ → Type 0

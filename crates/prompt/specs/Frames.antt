@@ -7,7 +7,7 @@ use Rattle.crossterm.specs.Sequences.{by, clear}
 use Rattle.crossterm.specs.declared.terminal.ClearType.TheVariants.{FromCursorDown}
 use Rattle.line_editor.specs.Splits.{Split}
 use Rattle.screen.specs.Buffers.{Picture}
-use Rattle.screen.specs.Strips.{StripView, IsOneRow, IsRowFrame, with_row, without_row}
+use Rattle.screen.specs.Strips.{StripView, IsNextFrame, IsOneRow, with_row, without_row}
 use Rattle.prompt.specs.Pictures.{IsPicture}
 
 -- The part of a terminal in which a line is shown: the cursor's row.
@@ -29,10 +29,10 @@ abbrev pub unseen : Area → Area
 unseen a = area (without_row a.strip) a.has_hint
 
 -- One frame: the text of tokens that make the area show a picture of the prompt, the line and the hint, and change
--- nothing else. In a window of one column nothing is written.
+-- nothing else. It may rely on nothing but bells written since the last frame. In a window of one column it is empty.
 pub data IsLineFrame (prompt : List ℕ) (line : Split) (hint : List ℕ) (a b : Area) (bytes : List ℕ) : Type 0 where
   drawn : (p : Picture) (column : ℕ) (ts : List Token) → 0 < a.strip.width → IsOneRow a.strip p → IsPicture a.strip.width prompt line hint p column b.has_hint
-      → b.strip ≡ with_row a.strip Enabled p.cells → text_of ts ≡ bytes → IsRowFrame a.strip Enabled p (Some column) ts → IsLineFrame prompt line hint a b bytes
+      → b.strip ≡ with_row a.strip Enabled p.cells (Some column) → text_of ts ≡ bytes → IsNextFrame a.strip Enabled p (Some column) ts → IsLineFrame prompt line hint a b bytes
   narrow : a.strip.width ≡ 0 → b ≡ a → bytes ≡ [] → IsLineFrame prompt line hint a b bytes
 
 -- A writer's bytes grew by one frame.

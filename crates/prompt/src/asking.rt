@@ -221,7 +221,7 @@ fn show_search<W: Write, A: Allocator>(
     ensures asked { row.new.is_asked ≡ row.old.is_asked }
 {
     let text = search_text(row.alloc, pattern, editor.is_ahead())?;
-    row.draw(out, text.as_str(), editor.line(), "")
+    row.draw_next(out, text.as_str(), editor.line(), "")
 }
 
 /// Shows the line in the cursor's row.
@@ -239,7 +239,7 @@ fn show<W: Write, A: Allocator, H: Helper>(
 {
     let line = editor.line();
     match editor.pattern() {
-        None => row.draw(out, prompt.text, line, prompt.helper.hint(line.text())),
+        None => row.draw_next(out, prompt.text, line, prompt.helper.hint(line.text())),
         Some(pattern) => show_search(out, editor, pattern, row),
     }
 }

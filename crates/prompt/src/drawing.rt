@@ -1,10 +1,10 @@
 //! How a line is shown in the cursor's row.
 ghost use Rattle.std.specs.Prelude.{◌≡◌, ◌-◌, ◌<◌, IfOk, IfSome, OnErr, OnOk, chars, false};
 ghost use Rattle.std.specs.Io.KnownBytes.{Appends, Keeps};
-ghost use Rattle.screen.specs.Strips.{without_row};
+ghost use Rattle.screen.specs.Strips.{without_cursor, without_row};
 ghost use Rattle.crossterm_command.specs.Writing.{AppendsFront};
 ghost use Rattle.crossterm_command.specs.declared.color_output.ColorOutput.TheVariants.{Enabled};
-ghost use Rattle.prompt.specs.Drawing.{IsCursor, IsDrawn, IsUnknown, clearing, column_behind, inside, leaving};
+ghost use Rattle.prompt.specs.Drawing.{IsCursor, IsDrawn, IsNextDrawn, IsUnknown, clearing, column_behind, inside, leaving};
 ghost use Rattle.prompt.specs.Frames.{Draws, DrawsFront, area, bell, erasure};
 ghost use Rattle.prompt.specs.Pictures.{IsPicture, dim_style, printed_from};
 
@@ -202,6 +202,8 @@ impl Row {
     /// if the cursor is at the line's end and the hint has room. Characters that no cell can hold are shown as U+FFFD. In a window of one
     /// column nothing has room, and nothing is written.
     ///
+    /// Nothing is assumed of the cursor's column and of the style that is set: other texts may have been written in the row before.
+    ///
     /// # Errors
     ///
     /// Those of the writer, and `OutOfMemory` if memory was refused. Then nothing is known of the row.
@@ -221,6 +223,38 @@ impl Row {
         ensures cursor { OnOk result (0 < self.old.strip.width → IsCursor self.old.buffer.width prompt.now line.now self.new.column) }
         ensures narrow { self.old.strip.width ≡ 0 → Keeps (W.contents out.old) (W.contents out.new) }
         ensures width { self.new.strip.width ≡ self.old.strip.width }
+        ensures shows { OnOk result (Draws prompt.now line.now hint.now (area (without_cursor self.old.strip) self.old.has_hint)
+            (area self.new.strip self.new.has_hint) (W.contents out.old) (W.contents out.new)) }
+        ensures stops { OnErr result (DrawsFront prompt.now line.now hint.now (area (without_cursor self.old.strip) self.old.has_hint)
+            (W.contents out.old) (W.contents out.new)) }
+        ensures asked { self.new.is_asked ≡ self.old.is_asked }
+    {
+        self.strip.forget_cursor();
+        self.draw_next(out, prompt, line, hint)
+    }
+
+    /// The same for who draws alone: nothing but a bell was written since the last frame. Then a letter that is typed at the line's end is one
+    /// byte, a cursor that moves is one CHA (ECMA-48, 8.3.9), and nothing is written if nothing changed.
+    ///
+    /// # Errors
+    ///
+    /// Those of `draw`.
+    ///
+    /// ```
+    /// row.draw_next(&mut out, "> ", editor.line(), "")?;
+    /// ```
+    pub fn draw_next<W: Write, A: Allocator>(
+        &mut self,
+        out: &mut W,
+        prompt: &str,
+        line: &Line<A>,
+        hint: &str,
+    ) -> io::Result<()>
+        ensures drawn { OnOk result (0 < self.old.strip.width
+            → IsNextDrawn self.new.buffer self.new.column self.old.strip self.new.strip (W.contents out.old) (W.contents out.new)) }
+        ensures cursor { OnOk result (0 < self.old.strip.width → IsCursor self.old.buffer.width prompt.now line.now self.new.column) }
+        ensures narrow { self.old.strip.width ≡ 0 → Keeps (W.contents out.old) (W.contents out.new) }
+        ensures width { self.new.strip.width ≡ self.old.strip.width }
         ensures shows { OnOk result (Draws prompt.now line.now hint.now (area self.old.strip self.old.has_hint) (area self.new.strip self.new.has_hint)
             (W.contents out.old) (W.contents out.new)) }
         ensures stops { OnErr result (DrawsFront prompt.now line.now hint.now (area self.old.strip self.old.has_hint) (W.contents out.old) (W.contents out.new)) }
@@ -232,7 +266,7 @@ impl Row {
         self.fit(prompt, line, hint)?;
         match self
             .strip
-            .draw(out, COLORS, &self.buffer, Some(self.column))
+            .draw_next(out, COLORS, &self.buffer, Some(self.column))
         {
             Ok(()) => out.flush(),
             Err(fault) => Err(io::Error::from(fault)),

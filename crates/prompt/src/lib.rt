@@ -20,7 +20,8 @@
 //! A `Prompt` has more: a `Helper` completes the line at Tab, and shows a hint behind it. `Words` is one that completes names.
 //!
 //! The line takes one row, and is seen through it as `Line::seen` says, in all columns of the window but the last. A key writes what it changes
-//! of the row. A character that no cell of `screen` can hold, as a joiner of emoji, is shown as U+FFFD.
+//! of the row: a letter that is typed at the line's end is one byte. That relies on the cursor's column after the last frame, so nothing else is
+//! written to the terminal while a line is read. A character that no cell of `screen` can hold, as a joiner of emoji, is shown as U+FFFD.
 //!
 //! Ctrl-L clears the window, and draws the row at its top. After a resize the terminal is asked for the cursor's place, since a narrower window
 //! may have wrapped the row. One that doesn't answer isn't asked again in that call; then what was wrapped stays above.
@@ -43,11 +44,13 @@
 //! | all that is written for a line is a list of pieces. A frame of the line follows each event that was taken, before the next one is read; an event that clears the window does so first. The bell rings at a text that is too long, and behind the frame at a search that finds nothing. After a resize comes an erasure, and before it at most the question for the cursor's place, if the prompt asks. Once the line has ended the row is left once, as far as the writer goes | `Prompt::read_line`, `read_line` |
 //! | after an error a beginning of such a list was written, for the events that the editor took | `Prompt::read_line`, `read_line` |
 //! | while an incremental search goes on, what it looks for is shown in the prompt's place, and no hint | `Prompt::read_line`, `read_line` |
-//! | the cells of each frame: the prompt, if it leaves eight columns to the line; the line, as `Line::seen` sees it in some columns; behind it the hint, dimmed, if the cursor is at the line's end and there is room; and blanks | `Row::draw`, `Prompt::read_line`, `read_line` |
-//! | a frame makes the row show these cells, with the cursor behind what was printed before it, and changes nothing else; at an error a beginning of one was written. What leaves a row, and what clears the window | `Row::{draw, leaving, clearing}` |
+//! | the cells of each frame: the prompt, if it leaves eight columns to the line; the line, as `Line::seen` sees it in some columns; behind it the hint, dimmed, if the cursor is at the line's end and there is room; and blanks | `Row::{draw, draw_next}`, `Prompt::read_line`, `read_line` |
+//! | a frame makes the row show these cells, with the cursor behind what was printed before it, and changes nothing else; at an error a beginning of one was written. What leaves a row, and what clears the window | `Row::{draw, draw_next, leaving, clearing}` |
+//! | a frame for who draws alone has no move, no style and no other control function that it doesn't need | `Row::draw_next`, `Prompt::read_line`, `read_line` |
 //! | names complete a text by the rest of the first that begins with it and goes on | `Helper::complete` of `Words` |
 //!
-//! The row is drawn by `screen::Strip::draw`, so each frame makes it show some cells, and changes nothing else. The cursor is behind what was
+//! The row is drawn by `screen::Strip::draw_next`, so each frame makes it show some cells, and changes nothing else, if nothing but bells was
+//! written since the last one. (A bell, BEL, moves no cursor; the definitions of `screen` don't speak of it.) The cursor is behind what was
 //! printed before it. It is only tested that the line is seen in as many columns as have room, which rows are erased after a resize, and how
 //! often a terminal that doesn't answer is asked.
 //!
@@ -61,8 +64,8 @@
 //! | `Asking` | what comes of asking for a line, event by event | `Prompt::read_line`, `read_line` |
 //! | `Lines` | the events and the lines of several calls | `laws::gives_lines` |
 //! | `Drawing` | how a line is drawn in the cursor's row | `Row` |
-//! | `Pictures` | which cells show a prompt, a line and a hint | `Row::draw`, `Prompt::read_line`, `read_line` |
-//! | `Frames` | what is written to show a line: a frame of the row, the bell, an erasure | `Row::draw`, `Prompt::read_line`, `read_line` |
+//! | `Pictures` | which cells show a prompt, a line and a hint | `Row::{draw, draw_next}`, `Prompt::read_line`, `read_line` |
+//! | `Frames` | what is written to show a line: a frame of the row, the bell, an erasure | `Row::{draw, draw_next}`, `Prompt::read_line`, `read_line` |
 //! | `Written` | what is written while a line is asked for, piece by piece | `Prompt::read_line`, `read_line` |
 //!
 //! `specs/inside/` says the same of a part, and no public clause cites it.

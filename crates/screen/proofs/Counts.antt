@@ -14,11 +14,13 @@ use Rattle.crossterm_style.specs.Styles.{no_style, act_tokens}
 use Rattle.screen.specs.Cells.{Cell}
 use Rattle.screen.specs.declared.settings.Setting.{Setting}
 use Rattle.screen.specs.declared.settings.Setting.TheVariants as setting
+use Rattle.screen.specs.declared.starts.Start.{Start}
+use Rattle.screen.specs.declared.starts.Start.TheVariants as start
 use Rattle.screen.specs.declared.strokes.Stroke.{Stroke}
 use Rattle.screen.specs.declared.strokes.Stroke.TheVariants as stroke
 use Rattle.screen.specs.Drawings.{DifferAt, characters_of, printed_count}
 use Rattle.screen.specs.Updates.{HasToBePrinted}
-use Rattle.screen.specs.inside.Strokes.{cell_strokes, color_tokens, cursor_strokes, first_strokes, last_strokes, tokens, tokens_of}
+use Rattle.screen.specs.inside.Strokes.{cell_strokes, color_tokens, cursor_strokes, first_strokes, last_strokes, stop_strokes, tokens, tokens_of}
 use Rattle.screen.proofs.Runs.{SetsStyle, style_sets}
 
 -- ---- tokens in a row
@@ -55,7 +57,7 @@ marks_printed : (marks : List ℕ) → printed_count (map Char marks) ≡ length
 marks_printed [] = refl
 marks_printed (m ∷ marks) = ap (λ n. n + 1) (marks_printed marks) ∙ (omega arith)
 
-cell_printed : (colors : ColorOutput) (c : Cell) → printed_count (tokens_of colors (stroke.Print c.symbol c.marks ∷ [])) ≡ characters_of c
+pub cell_printed : (colors : ColorOutput) (c : Cell) → printed_count (tokens_of colors (stroke.Print c.symbol c.marks ∷ [])) ≡ characters_of c
 cell_printed colors c = ap printed_count (append-nil (tokens colors (stroke.Print c.symbol c.marks))) ∙ ap (λ n. n + 1) (marks_printed c.marks)
 
 pub cell_prints : (colors : ColorOutput) (there : Bool) (how : Setting) (column row : ℕ) (c : Cell) → printed_count (tokens_of colors (cell_strokes there how column row c)) ≡ characters_of c
@@ -70,9 +72,18 @@ pub last_prints : (colors : ColorOutput) (cursor : Option (ℕ × ℕ)) → prin
 last_prints colors None = style_prints colors no_style (cursor_strokes None ++ (stroke.End ∷ []))
 last_prints colors (Some place) = style_prints colors no_style (cursor_strokes (Some place) ++ (stroke.End ∷ []))
 
-pub first_prints : (colors : ColorOutput) (known : Bool) → printed_count (tokens_of colors (first_strokes known)) ≡ 0
-first_prints colors true = refl
-first_prints colors false = style_prints colors no_style (stroke.Erase ∷ [])
+pub first_prints : (colors : ColorOutput) (known : Start) → printed_count (tokens_of colors (first_strokes known)) ≡ 0
+first_prints colors start.Nothing = style_prints colors no_style (stroke.Erase ∷ [])
+first_prints colors start.Cells = refl
+first_prints colors (start.All at) = refl
+
+pub stop_prints : (colors : ColorOutput) (there : Bool) (how : Setting) (column : ℕ) → printed_count (tokens_of colors (stop_strokes there how column)) ≡ 0
+stop_prints colors true setting.Kept column = refl
+stop_prints colors true (setting.Colors change) column = colors_print colors change []
+stop_prints colors true (setting.Whole s) column = style_prints colors s []
+stop_prints colors false setting.Kept column = refl
+stop_prints colors false (setting.Colors change) column = colors_print colors change []
+stop_prints colors false (setting.Whole s) column = style_prints colors s []
 
 -- ---- places that differ
 

@@ -7,6 +7,8 @@ pub mod Laying
 pub mod Taking
 pub mod Filling
 pub mod Prints
+pub mod Narrow
+pub mod Ascii
 pub mod Alignments
 pub mod Styling
 pub mod Edges
@@ -14,6 +16,7 @@ pub mod Recolorings
 pub mod Runs
 pub mod Counts
 pub mod Scans
+pub mod Crossings
 pub mod Putting
 pub mod Spares
 pub mod Skips
@@ -21,3 +24,4 @@ pub mod Frames
 pub mod Written
 pub mod Rows
 pub mod RowFrames
+pub mod NextFrames

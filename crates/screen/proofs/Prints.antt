@@ -198,9 +198,6 @@ pub record IsWritten (how : Editing) (all done rest : List (List ℕ)) (room at 
   pub left : within room (edited how all) ≡ done ++ within (room - count) (edited how rest)
   pub written : cells ≡ overwritten old at (cells_of s done)
 
-pub written_none : (how : Editing) (all : List (List ℕ)) (room at : ℕ) (s : ContentStyle) (cells : List Cell) → IsWritten how all [] all room at s cells 0 cells
-written_none how all room at s cells = record { fits = omega arith; taken = refl; held = tt; left = ap (λ k. within k (edited how all)) (omega arith); written = refl }
-
 -- A part that is left out.
 pub written_without : (how : Editing) (all done rest back : List (List ℕ)) (p : List ℕ) (room at : ℕ) (s : ContentStyle) (old : List Cell) (count : ℕ) (cells : List Cell) → rest ≡ p ∷ back → edit how p ≡ None
     → IsWritten how all done rest room at s old count cells → IsWritten how all done back room at s old count cells

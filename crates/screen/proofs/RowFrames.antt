@@ -1,5 +1,5 @@
 -- A frame in a row.
-use Rattle.std.proofs.Common.{◌≡◌, ◌&&◌, ◌^◌, Result, Ok, Err, OnOk, inl, inr, nat_le, Option, Some, None, codes, flat_map, ℕ, zero, suc, ◌+◌, ◌-◌, ◌*◌, ◌%◌, ◌<◌, Bool, true, false, cond, List, [], ◌∷◌, ◌++◌, refl, sym, ap, ◌∙◌, subst, arith, length, map, take, drop, replicate, append_assoc, append-nil}
+use Rattle.std.proofs.Common.{◌≡◌, ◌&&◌, ◌^◌, Result, Ok, Err, IfErr, OnOk, inl, inr, nat_le, Option, Some, None, codes, flat_map, ℕ, zero, suc, ◌+◌, ◌-◌, ◌*◌, ◌%◌, ◌<◌, Bool, true, false, cond, List, [], ◌∷◌, ◌++◌, refl, sym, ap, ◌∙◌, subst, arith, length, map, take, drop, replicate, append_assoc, append-nil}
 use Rattle.std.specs.Bool.{⊤}
 use Rattle.std.specs.List.{AllByRecursion}
 use Rattle.std.proofs.lemmas.Fmt.{decimal_digit}
@@ -16,6 +16,8 @@ use Rattle.crossterm.specs.Sequences.{clear}
 use Rattle.crossterm.specs.declared.terminal.ClearType.TheVariants.{All}
 use Rattle.screen.specs.declared.faults.DrawFault.{DrawFault}
 use Rattle.screen.specs.declared.faults.DrawFault.TheVariants.{Size, Cursor, Command}
+use Rattle.screen.specs.declared.starts.Start.{Start}
+use Rattle.screen.specs.declared.starts.Start.TheVariants as start
 use Rattle.screen.specs.declared.strokes.Stroke.{Stroke}
 use Rattle.screen.specs.declared.strokes.Stroke.TheVariants as stroke
 use Rattle.screen.specs.Buffers.{Picture}
@@ -23,8 +25,9 @@ use Rattle.screen.specs.Cells.{cell_look}
 use Rattle.screen.specs.Drawings.{CursorFits, HasCursor, IsFrame, IsSameSize, MayShow, Shows, ShowsDrawn, forgotten, knows_cells}
 use Rattle.screen.specs.Grids.{Grid, Square, begun, blank_square, move_cursor, overwritten, place_after, place_beside, run}
 use Rattle.screen.specs.Screens.{Drawn, View}
-use Rattle.screen.specs.Strips.{ColumnFits, HasColumn, IsOneRow, IsRowFrame, LiesIn, RowNotDrawn, ShowsLast, ShowsRow, StripView, TurnsRow, as_screen, in_first_row, in_row, second_parameter}
-use Rattle.screen.specs.inside.Scans.{NotWritten}
+use Rattle.screen.specs.Strips.{ColumnFits, HasColumn, IsOneRow, IsRowFrame, LiesIn, RowNotDrawn, ShowsLast, ShowsRow, StripView, TurnsRow, as_screen, in_first_row, in_row, second_parameter, without_row}
+use Rattle.screen.specs.inside.Leaving.{left_by}
+use Rattle.screen.specs.inside.Scans.{NotWritten, start_by}
 use Rattle.screen.specs.inside.Strokes.{AreFitting, IsFitting, color_tokens, first_strokes, tokens, tokens_of, written, written_of}
 use Rattle.screen.proofs.Rows.{Embeds, IsFollowing, Simulates, overwritten_within, row_start, tokens_in_row}
 use Rattle.screen.proofs.Runs.{le_true, place_parts, plain_set, run_then, runs_then}
@@ -32,7 +35,7 @@ use Rattle.screen.proofs.Spares.{chars_all, color_all, style_all}
 
 -- ---- blank cells
 
-blanks_begun : (n : ℕ) (below : List Square) → begun below ≡ below → begun (replicate n blank_square ++ below) ≡ replicate n blank_square ++ below
+pub blanks_begun : (n : ℕ) (below : List Square) → begun below ≡ below → begun (replicate n blank_square ++ below) ≡ replicate n blank_square ++ below
 blanks_begun zero below e = e
 blanks_begun (suc n) below e = refl
 
@@ -81,16 +84,16 @@ erased_row width above row below g lies =
 abbrev pub alone : ℕ → List Square → Grid → Grid
 alone width row g = record { width = width; height = 1; cells = take width row; cursor = None; visible = g.visible; style = g.style; printed = None }
 
-alone_length : (width : ℕ) (above row below : List Square) (g : Grid) → LiesIn width above row below g → length (take width row) ≡ width
+pub alone_length : (width : ℕ) (above row below : List Square) (g : Grid) → LiesIn width above row below g → length (take width row) ≡ width
 alone_length width above row below g lies = length-take-le width row (omega (arith, lies.whole, lies.narrower))
 
-drawn_length : (width : ℕ) (above row below : List Square) (g : Grid) (d : Drawn) → LiesIn width above row below g → ShowsLast (Some d) (g.width - width) row
+pub drawn_length : (width : ℕ) (above row below : List Square) (g : Grid) (d : Drawn) → LiesIn width above row below g → ShowsLast (Some d) (g.width - width) row
     → length (map (cell_look d.colors) d.cells) ≡ width
 drawn_length width above row below g d lies shows =
     omega (arith, lies.whole, lies.narrower, ap length shows, length-append (map (cell_look d.colors) d.cells) (replicate (g.width - width) blank_square), length-replicate (g.width - width) blank_square)
 
 -- The screen of its own shows what was drawn.
-alone_drawn : (width : ℕ) (above row below : List Square) (g : Grid) (drawn : Option Drawn) → LiesIn width above row below g → ShowsLast drawn (g.width - width) row → ShowsDrawn drawn (alone width row g)
+pub alone_drawn : (width : ℕ) (above row below : List Square) (g : Grid) (drawn : Option Drawn) → LiesIn width above row below g → ShowsLast drawn (g.width - width) row → ShowsDrawn drawn (alone width row g)
 alone_drawn width above row below g None lies shows = tt
 alone_drawn width above row below g (Some d) lies shows =
     ap (take width) shows ∙ take_at (map (cell_look d.colors) d.cells) (replicate (g.width - width) blank_square) width (drawn_length width above row below g d lies shows)
@@ -215,7 +218,7 @@ following_each colors (stroke.Print c marks) f = (tt, chars_all IsFollowing (λ 
 following_each colors stroke.Show f = (inr (inr (inl refl)), tt)
 following_each colors stroke.Hide f = (inr (inr (inr refl)), tt)
 
-following : (colors : ColorOutput) (strokes : List Stroke) → AllByRecursion IsFitting strokes → AllByRecursion IsFollowing (tokens_of colors strokes)
+pub following : (colors : ColorOutput) (strokes : List Stroke) → AllByRecursion IsFitting strokes → AllByRecursion IsFollowing (tokens_of colors strokes)
 following colors [] f = tt
 following colors (s ∷ strokes) f = all_joined IsFollowing (tokens colors s) (tokens_of colors strokes) (following_each colors s f.0) (following colors strokes f.1)
 
@@ -261,34 +264,31 @@ numbers_all : (strokes : List Stroke) → AllByRecursion IsFitting strokes → A
 numbers_all [] f = tt
 numbers_all (s ∷ strokes) f = (numbers_each s f.0, numbers_all strokes f.1)
 
-first_numbers : (known : Bool) → AllByRecursion HasNumbers (first_strokes known)
-first_numbers true = (tt, tt)
-first_numbers false = (tt, (tt, (tt, tt)))
+first_numbers : (known : Start) → AllByRecursion HasNumbers (first_strokes known)
+first_numbers start.Nothing = (tt, (tt, (tt, tt)))
+first_numbers start.Cells = (tt, tt)
+first_numbers (start.All at) = tt
 
 -- Strokes in a row are written as the tokens that replace their own.
-row_same : (colors : ColorOutput) (known : Bool) (strokes : List Stroke) → AreFitting known strokes → written_of true colors strokes ≡ flat_map in_row (tokens_of colors strokes)
+pub row_same : (colors : ColorOutput) (known : Start) (strokes : List Stroke) → AreFitting known strokes → written_of true colors strokes ≡ flat_map in_row (tokens_of colors strokes)
 row_same colors known strokes f =
     row_all colors strokes (subst (AllByRecursion HasNumbers) (sym f.1) (all_joined HasNumbers (first_strokes known) f.0 (first_numbers known) (numbers_all f.0 f.2)))
 
 -- ---- from each row
 
-first_fitting : (known : Bool) → known ≡ true → AllByRecursion IsFitting (first_strokes known)
-first_fitting true e = (tt, tt)
-first_fitting false e = cc
-
-turns_known : (s : StripView) (colors : ColorOutput) (p : Picture) (cursor : Option ℕ) (strokes : List Stroke) → p.width ≡ s.width → knows_cells s.drawn colors ≡ true → AreFitting true strokes
+turns_known : (s : StripView) (colors : ColorOutput) (p : Picture) (cursor : Option ℕ) (strokes : List Stroke) → p.width ≡ s.width → knows_cells s.drawn colors ≡ true → AreFitting start.Cells strokes
     → IsFrame (as_screen s) colors p (in_first_row cursor) (tokens_of colors strokes) → TurnsRow s colors p cursor (flat_map in_row (tokens_of colors strokes))
 turns_known s colors p cursor strokes same k fit frame above row below g lies shows =
     let small = alone s.width row g in
     let (h0, ran, shown) = frame.turns small (alone_shows s above row below g lies shows) in
     let all : AllByRecursion IsFitting strokes =
-    subst (AllByRecursion IsFitting) (sym fit.1) (all_joined IsFitting (first_strokes true) fit.0 (first_fitting true refl) fit.2) in
+    subst (AllByRecursion IsFitting) (sym fit.1) (all_joined IsFitting (first_strokes start.Cells) fit.0 (tt, tt) fit.2) in
     lands s colors p cursor above row below g small g (tokens_of colors strokes) h0 same lies refl refl (following colors strokes all)
     (known_start s.width above row below g s.drawn colors k lies shows) ran shown
 
 -- The first strokes of a frame of unknown cells, in a row.
 erased_first : (colors : ColorOutput) (width : ℕ) (above row below : List Square) (g : Grid) → LiesIn width above row below g
-    → run (flat_map in_row (tokens_of colors (first_strokes false))) g ≡ Some (record g { cells = above ++ (replicate g.width blank_square ++ below); cursor = Some (length above + 0); style = plain; printed = None })
+    → run (flat_map in_row (tokens_of colors (first_strokes start.Nothing))) g ≡ Some (record g { cells = above ++ (replicate g.width blank_square ++ below); cursor = Some (length above + 0); style = plain; printed = None })
 erased_first colors width above row below g lies =
     let styles = tokens colors (stroke.Style no_style) in
     let erase : List Token = Csi (codes "1") [] 0x47 ∷ Csi [] [] 0x4B ∷ [] in
@@ -296,11 +296,11 @@ erased_first colors width above row below g lies =
     let parts : flat_map in_row (styles ++ clear All) ≡ styles ++ erase = flat_map-append in_row styles (clear All) ∙ ap (λ l. l ++ erase) kept in
     ap (λ l. run l g) parts ∙ run_then styles erase g (record g { style = plain; printed = None }) (plain_set colors g) ∙ erased_row width above row below g lies
 
-turns_unknown : (s : StripView) (colors : ColorOutput) (p : Picture) (cursor : Option ℕ) (strokes : List Stroke) → p.width ≡ s.width → AreFitting false strokes
+turns_unknown : (s : StripView) (colors : ColorOutput) (p : Picture) (cursor : Option ℕ) (strokes : List Stroke) → p.width ≡ s.width → AreFitting start.Nothing strokes
     → IsFrame (as_screen s) colors p (in_first_row cursor) (tokens_of colors strokes) → TurnsRow s colors p cursor (flat_map in_row (tokens_of colors strokes))
 turns_unknown s colors p cursor strokes same fit frame above row below g lies shows =
     let later = fit.0 in
-    let first = first_strokes false in
+    let first = first_strokes start.Nothing in
     let small = alone s.width row g in
     let small1 : Grid = record small { cells = map (λ c. blank_square) (take s.width row); style = plain } in
     let big1 : Grid = record g { cells = above ++ (replicate g.width blank_square ++ below); cursor = Some (length above + 0); style = plain; printed = None } in
@@ -319,7 +319,7 @@ turns_unknown s colors p cursor strokes same fit frame above row below g lies sh
       row_shown,
     )
 
-turns_row : (s : StripView) (colors : ColorOutput) (p : Picture) (cursor : Option ℕ) (known : Bool) (strokes : List Stroke) → p.width ≡ s.width → knows_cells s.drawn colors ≡ known → AreFitting known strokes
+turns_row : (s : StripView) (colors : ColorOutput) (p : Picture) (cursor : Option ℕ) (known : Bool) (strokes : List Stroke) → p.width ≡ s.width → knows_cells s.drawn colors ≡ known → AreFitting (start_by known) strokes
     → IsFrame (as_screen s) colors p (in_first_row cursor) (tokens_of colors strokes) → TurnsRow s colors p cursor (flat_map in_row (tokens_of colors strokes))
 turns_row s colors p cursor true strokes same k fit frame = turns_known s colors p cursor strokes same k fit frame
 turns_row s colors p cursor false strokes same k fit frame = turns_unknown s colors p cursor strokes same fit frame
@@ -327,73 +327,79 @@ turns_row s colors p cursor false strokes same k fit frame = turns_unknown s col
 -- ---- a strip by its screen
 
 -- A frame of the screen, written in a row, is one of the strip.
-row_framed : (v : View) (s : StripView) (colors : ColorOutput) (p : Picture) (cursor : Option ℕ) (strokes : List Stroke) → v ≡ as_screen s → IsSameSize v p → AreFitting (knows_cells v.drawn colors) strokes
+row_framed : (v : View) (s : StripView) (colors : ColorOutput) (p : Picture) (cursor : Option ℕ) (strokes : List Stroke) → v ≡ as_screen s → IsSameSize v p → AreFitting (start_by (knows_cells v.drawn colors)) strokes
     → IsFrame v colors p (in_first_row cursor) (tokens_of colors strokes) → IsRowFrame s colors p cursor (written_of true colors strokes)
 row_framed v s colors p cursor strokes e size fit frame =
     let known = knows_cells s.drawn colors in
-    let fits : AreFitting known strokes = subst (λ w. AreFitting (knows_cells w.drawn colors) strokes) e fit in
+    let fits : AreFitting (start_by known) strokes = subst (λ w. AreFitting (start_by (knows_cells w.drawn colors)) strokes) e fit in
     let here : IsFrame (as_screen s) colors p (in_first_row cursor) (tokens_of colors strokes) = subst (λ w. IsFrame w colors p (in_first_row cursor) (tokens_of colors strokes)) e frame in
-    let same : written_of true colors strokes ≡ flat_map in_row (tokens_of colors strokes) = row_same colors known strokes fits in
+    let same : written_of true colors strokes ≡ flat_map in_row (tokens_of colors strokes) = row_same colors (start_by known) strokes fits in
     let wide : p.width ≡ s.width = size.0 ∙ ap (λ w. w.width) e in
     record {
       turns = subst (TurnsRow s colors p cursor) (sym same) (turns_row s colors p cursor known strokes wide refl fits here);
       frame = (tokens_of colors strokes, same, here);
     }
 
--- What a strip is by its screen.
-abbrev pub strip_of : View → StripView
-strip_of v = record { width = v.width; drawn = v.drawn; room = v.room }
+-- A strip by its screen and the column in which the cursor was left.
+abbrev pub strip_of : View → Option ℕ → StripView
+strip_of v left = record { width = v.width; drawn = v.drawn; left = left; room = v.room }
 
-screen_of : (v : View) (s : StripView) → v.height ≡ 1 → strip_of v ≡ s → v ≡ as_screen s
-screen_of v s h e =
+pub screen_of : (v : View) (left : Option ℕ) (s : StripView) → v.height ≡ 1 → strip_of v left ≡ s → v ≡ as_screen s
+screen_of v left s h e =
     ap (λ n. record { width = v.width; height = n; drawn = v.drawn; room = v.room }) h ∙ ap as_screen e
 
-one_row : (v : View) (s : StripView) (p : Picture) → v ≡ as_screen s → IsSameSize v p → IsOneRow s p
+pub one_row : (v : View) (s : StripView) (p : Picture) → v ≡ as_screen s → IsSameSize v p → IsOneRow s p
 one_row v s p e size = (size.0 ∙ ap (λ w. w.width) e, size.1 ∙ ap (λ w. w.height) e)
 
-same_size : (v : View) (s : StripView) (p : Picture) → v ≡ as_screen s → IsOneRow s p → IsSameSize v p
+pub same_size : (v : View) (s : StripView) (p : Picture) → v ≡ as_screen s → IsOneRow s p → IsSameSize v p
 same_size v s p e size = (size.0 ∙ sym (ap (λ w. w.width) e), size.1 ∙ sym (ap (λ w. w.height) e))
 
-column_fits : (v : View) (s : StripView) (cursor : Option ℕ) → v ≡ as_screen s → CursorFits v (in_first_row cursor) → ColumnFits s cursor
+pub column_fits : (v : View) (s : StripView) (cursor : Option ℕ) → v ≡ as_screen s → CursorFits v (in_first_row cursor) → ColumnFits s cursor
 column_fits v s None e fits = tt
 column_fits v s (Some column) e fits = subst (λ w. column < w.width) e fits.0
 
-cursor_fits : (v : View) (s : StripView) (cursor : Option ℕ) → v ≡ as_screen s → ColumnFits s cursor → CursorFits v (in_first_row cursor)
+pub cursor_fits : (v : View) (s : StripView) (cursor : Option ℕ) → v ≡ as_screen s → ColumnFits s cursor → CursorFits v (in_first_row cursor)
 cursor_fits v s None e fits = tt
 cursor_fits v s (Some column) e fits = (subst (λ w. column < w.width) (sym e) fits, subst (λ w. 0 < w.height) (sym e) (omega arith))
 
 -- What the screen refuses, the strip refuses.
-row_not_drawn : (fault : DrawFault) (v w : View) (s t : StripView) (colors : ColorOutput) (p : Picture) (cursor : Option ℕ) (old new : Option (List ℕ)) → v ≡ as_screen s → strip_of w ≡ t
-    → NotWritten true fault v w colors p (in_first_row cursor) old new → RowNotDrawn fault s t colors p cursor old new
-row_not_drawn Size v w s t colors p cursor old new e f (apart, same, none) = (λ size. apart (same_size v s p e size), sym f ∙ ap strip_of (same ∙ e), none)
-row_not_drawn Cursor v w s t colors p cursor old new e f (size, apart, same, none) =
-    (one_row v s p e size, λ fits. apart (cursor_fits v s cursor e fits), sym f ∙ ap strip_of (same ∙ e), none)
-row_not_drawn (Command fault) v w s t colors p cursor old new e f (size, fits, gone, strokes, fit, frame, front) = (
+row_not_drawn : (fault : DrawFault) (v w : View) (left after : Option ℕ) (s t : StripView) (colors : ColorOutput) (p : Picture) (cursor : Option ℕ) (old new : Option (List ℕ)) → v ≡ as_screen s → strip_of v left ≡ s
+    → strip_of w after ≡ t → after ≡ left_by (Err fault) left cursor → NotWritten true fault v w colors p (in_first_row cursor) old new → RowNotDrawn fault s t p cursor (IsRowFrame s colors p cursor) old new
+row_not_drawn Size v w left after s t colors p cursor old new e is f by (apart, same, none) =
+    (λ size. apart (same_size v s p e size), sym f ∙ ap (λ l. strip_of w l) by ∙ ap (λ u. strip_of u left) same ∙ is, none)
+row_not_drawn Cursor v w left after s t colors p cursor old new e is f by (size, apart, same, none) =
+    (one_row v s p e size, λ fits. apart (cursor_fits v s cursor e fits), sym f ∙ ap (λ l. strip_of w l) by ∙ ap (λ u. strip_of u left) same ∙ is, none)
+row_not_drawn (Command fault) v w left after s t colors p cursor old new e is f by (size, fits, gone, strokes, fit, frame, front) = (
   one_row v s p e size,
   column_fits v s cursor e fits,
-  sym f ∙ ap strip_of (gone ∙ ap forgotten e),
+  sym f ∙ ap (λ l. strip_of w l) by ∙ ap (λ u. strip_of u None) gone ∙ ap without_row is,
   written_of true colors strokes,
   row_framed v s colors p cursor strokes e size fit frame,
   front,
 )
 
 -- What the screen draws in a row, the strip draws.
-pub strip_drawn : (v : View) (s : StripView) (colors : ColorOutput) (p : Picture) (cursor : Option ℕ) (place : Option (ℕ × ℕ)) (old new : Option (List ℕ)) → v.height ≡ 1 → strip_of v ≡ s → place ≡ in_first_row cursor
+pub strip_drawn : (v : View) (left : Option ℕ) (s : StripView) (colors : ColorOutput) (p : Picture) (cursor : Option ℕ) (place : Option (ℕ × ℕ)) (old new : Option (List ℕ)) → v.height ≡ 1 → strip_of v left ≡ s → place ≡ in_first_row cursor
     → IsSameSize v p × CursorFits v place
-    → (strokes : List Stroke) × AppendsReading old new (written_of true colors strokes) × AreFitting (knows_cells v.drawn colors) strokes × IsFrame v colors p place (tokens_of colors strokes)
+    → (strokes : List Stroke) × AppendsReading old new (written_of true colors strokes) × AreFitting (start_by (knows_cells v.drawn colors)) strokes × IsFrame v colors p place (tokens_of colors strokes)
     → (ts : List Token) × AppendsReading old new ts × IsRowFrame s colors p cursor ts
-strip_drawn v s colors p cursor place old new h e is fits (strokes, read, fit, frame) = (
+strip_drawn v left s colors p cursor place old new h e is fits (strokes, read, fit, frame) = (
   written_of true colors strokes,
   read,
-  row_framed v s colors p cursor strokes (screen_of v s h e) fits.0 fit (subst (λ o. IsFrame v colors p o (tokens_of colors strokes)) is frame),
+  row_framed v s colors p cursor strokes (screen_of v left s h e) fits.0 fit (subst (λ o. IsFrame v colors p o (tokens_of colors strokes)) is frame),
 )
 
-pub strip_refused : (fault : DrawFault) (v w : View) (s t : StripView) (colors : ColorOutput) (p : Picture) (cursor : Option ℕ) (place : Option (ℕ × ℕ)) (old new : Option (List ℕ)) → v.height ≡ 1 → strip_of v ≡ s → strip_of w ≡ t
-    → place ≡ in_first_row cursor → NotWritten true fault v w colors p place old new → RowNotDrawn fault s t colors p cursor old new
-strip_refused fault v w s t colors p cursor place old new h e f is refused =
-    row_not_drawn fault v w s t colors p cursor old new (screen_of v s h e) f (subst (λ o. NotWritten true fault v w colors p o old new) is refused)
+pub strip_refused : (fault : DrawFault) (v w : View) (left after : Option ℕ) (s t : StripView) (colors : ColorOutput) (p : Picture) (cursor : Option ℕ) (place : Option (ℕ × ℕ)) (old new : Option (List ℕ)) → v.height ≡ 1 → strip_of v left ≡ s → strip_of w after ≡ t
+    → after ≡ left_by (Err fault) left cursor → place ≡ in_first_row cursor → NotWritten true fault v w colors p place old new → RowNotDrawn fault s t p cursor (IsRowFrame s colors p cursor) old new
+strip_refused fault v w left after s t colors p cursor place old new h e f by is refused =
+    row_not_drawn fault v w left after s t colors p cursor old new (screen_of v left s h e) e f by (subst (λ o. NotWritten true fault v w colors p o old new) is refused)
 
 -- Two facts of a result that is `Ok`.
 pub on_ok_both : {T E : Type 0} {P Q R : Type 0} (r : Result T E) → (P → Q → R) → OnOk r P → OnOk r Q → OnOk r R
 on_ok_both (Ok x) f p q = f p q
 on_ok_both (Err e) f p q = tt
+
+-- A fact of an error, by the result that it is.
+pub err_with : {T E : Type 0} {P Q : E → Type 0} (r : Result T E) → ((e : E) → r ≡ Err e → P e → Q e) → IfErr r P → IfErr r Q
+err_with (Ok x) f p = tt
+err_with (Err e) f p = f e refl p

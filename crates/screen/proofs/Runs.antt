@@ -283,20 +283,20 @@ abbrev pub painted : ColorOutput → Grid → ℕ → Cell → Grid
 painted colors g at c = record g { cells = overwritten g.cells at (squares colors c); cursor = right_of g.width (last_place at c); style = look colors c.style; printed = Some at }
 
 -- A character and its marks that are printed at the cursor.
-printed_all : (colors : ColorOutput) (c : Cell) (at : ℕ) (g : Grid) → FitsCell (shown_text c) → (is_wide c ≡ true → is_last g.width at ≡ false) → at ≤ length g.cells
+pub printed_all : (colors : ColorOutput) (c : Cell) (at : ℕ) (g : Grid) → FitsCell (shown_text c) → (is_wide c ≡ true → is_last g.width at ≡ false) → at ≤ length g.cells
     → g.cursor ≡ Some at → g.style ≡ look colors c.style → run (Char c.symbol ∷ map Char c.marks) g ≡ Some (painted colors g at c)
 printed_all colors c at g held room le cursor style =
     ap (λ o. elim o [ None ↦ None | Some h ↦ run (map Char c.marks) h ]) (prints_alone c.symbol g held.0 ∙ printed_by (is_wide c) colors c at g refl held.0.2 room cursor style)
     ∙ marks_run (is_wide c) c.marks (c.symbol ∷ []) (look colors c.style) g.cells at (bare colors g at c) le refl refl held.1
 
-moved_if : (colors : ColorOutput) (there : Bool) (row column : ℕ) (g : Grid) → row < g.height → column < g.width → row < 2 ^ 32 → column < 2 ^ 32
+pub moved_if : (colors : ColorOutput) (there : Bool) (row column : ℕ) (g : Grid) → row < g.height → column < g.width → row < 2 ^ 32 → column < 2 ^ 32
     → (there ≡ true → g.cursor ≡ Some (row * g.width + column))
     → (p : Option ℕ) × (run (tokens_of colors (move_strokes there column row)) g ≡ Some (record g { cursor = Some (row * g.width + column); printed = p }))
 moved_if colors true row column g r k rs ks h = (g.printed, ap (λ o. Some (record g { cursor = o })) (h refl))
 moved_if colors false row column g r k rs ks h = (None, moved row column g r k rs ks)
 
 -- A style that is set after another one.
-styled_from : (colors : ColorOutput) (set : Option ContentStyle) (to : ContentStyle) (how : Setting) (g : Grid) → Sets set to how → HasByteColors how → ((s : ContentStyle) → set ≡ Some s → g.style ≡ look colors s)
+pub styled_from : (colors : ColorOutput) (set : Option ContentStyle) (to : ContentStyle) (how : Setting) (g : Grid) → Sets set to how → HasByteColors how → ((s : ContentStyle) → set ≡ Some s → g.style ≡ look colors s)
     → Restyles (tokens_of colors (style_strokes how)) (look colors to) g
 styled_from colors None to setting.Kept g is fits h = cc
 styled_from colors None to (setting.Colors change) g is fits h = cc

@@ -9,14 +9,16 @@ use Rattle.crossterm_style.specs.Looks.{plain}
 use Rattle.crossterm_style.specs.Styles.{no_style}
 use Rattle.screen.specs.declared.settings.Setting.{Setting}
 use Rattle.screen.specs.declared.settings.Setting.TheVariants as setting
+use Rattle.screen.specs.declared.starts.Start.{Start}
+use Rattle.screen.specs.declared.starts.Start.TheVariants as start
 use Rattle.screen.specs.declared.strokes.Stroke.{Stroke}
 use Rattle.screen.specs.declared.strokes.Stroke.TheVariants as stroke
 use Rattle.screen.specs.Cells.{ArePaired, Cell, FitsCell, IsPlaced, blank, is_covered, is_wide, last_place, look, cell_look, shown_text}
-use Rattle.screen.specs.Drawings.{DifferAt, characters_of, printed_count}
+use Rattle.screen.specs.Drawings.{characters_of}
 use Rattle.screen.specs.Updates.{HasToBePrinted}
 use Rattle.screen.specs.Grids.{Grid, Square, begun, blank_square, is_last, overwritten, right_of, run}
 use Rattle.screen.specs.Grids.Square.{Whole}
-use Rattle.screen.specs.inside.Scans.{Counts, IsSized, ReachesPlace, Spares, Visited, rest_from}
+use Rattle.screen.specs.inside.Scans.{Counts, CountsAll, IsSized, ReachesPlace, Sparing, Visited, known_cursor, known_style, rest_from}
 use Rattle.screen.specs.inside.Settings.{HasByteColors, Sets}
 use Rattle.screen.specs.inside.Strokes.{AreFitting, IsFitting, cell_strokes, first_strokes, tokens, tokens_of}
 use Rattle.screen.proofs.Counts.{cell_prints, first_prints, other_at, same_at, strokes_printed}
@@ -31,33 +33,46 @@ erased_cells colors (x ∷ xs) =
     let square : blank_square ≡ cell_look colors blank = ap (λ s. Whole (32 ∷ []) s) (sym (looks_plain colors)) ∙ sym (blank_seen colors) in
     ap (λ l. blank_square ∷ l) (erased_cells colors xs) ∙ ap (λ q. q ∷ map (cell_look colors) (replicate (length xs) blank)) square
 
-pub within_length : (known : Bool) (width height : ℕ) (before : List Cell) → IsSized known width height before → length before ≡ width * height
-within_length true width height before w = w
-within_length false width height before w = ap length w ∙ length-replicate (width * height) blank
+pub within_length : (known : Start) (width height : ℕ) (before : List Cell) → IsSized known width height before → length before ≡ width * height
+within_length start.Nothing width height before w = ap length w ∙ length-replicate (width * height) blank
+within_length start.Cells width height before w = w
+within_length (start.All at) width height before w = w
 
-pub starts : (known : Bool) (width height : ℕ) (before after : List Cell) → IsSized known width height before
-    → ArePaired false before → ArePaired false after → ReachesPlace known width height before after 0 None None (first_strokes known)
-starts true width height before after w b a =
-    (λ colors g s. (record g { printed = None }, refl, record { size = s.0; cells = s.1 ∙ sym (rest_same colors false after before a b); place = λ n y. cc; set = λ t y. cc }))
-starts false width height before after w b a =
+pub starts : (known : Start) (width height : ℕ) (before after : List Cell) → IsSized known width height before
+    → ArePaired false before → ArePaired false after → ReachesPlace known width height before after 0 (known_cursor known) (known_style known) (first_strokes known)
+starts start.Cells width height before after w b a =
+    (λ colors g s. (record g { printed = None }, refl, record { size = s.0; seen = tt; cells = s.1 ∙ sym (rest_same colors false after before a b); place = λ n y. cc; set = λ t y. cc }))
+starts start.Nothing width height before after w b a =
     (λ colors g s.
     let g1 : Grid = record g { style = plain; printed = None } in
     let h : Grid = record g1 { cells = map (λ c. blank_square) g.cells } in
-    let ran : run (tokens_of colors (first_strokes false)) g ≡ Some h =
+    let ran : run (tokens_of colors (first_strokes start.Nothing)) g ≡ Some h =
     run_then (tokens colors (stroke.Style no_style)) (tokens_of colors (stroke.Erase ∷ [])) g g1 (plain_set colors g) in
     let cells : h.cells ≡ map (cell_look colors) before = erased_cells colors g.cells ∙ ap (λ n. map (cell_look colors) (replicate n blank)) s.2 ∙ ap (map (cell_look colors)) (sym w) in
-    (h, ran, record { size = (s.0, s.1, length-map g.cells (λ c. blank_square) ∙ s.2); cells = cells ∙ sym (rest_same colors false after before a b); place = λ n y. cc; set = λ t y. cc }))
+    (h, ran, record { size = (s.0, s.1, length-map g.cells (λ c. blank_square) ∙ s.2); seen = tt; cells = cells ∙ sym (rest_same colors false after before a b); place = λ n y. cc; set = λ t y. cc }))
+starts (start.All at) width height before after w b a =
+    (λ colors g s. (
+      g,
+      refl,
+      record {
+        size = s.0;
+        seen = s.3;
+        cells = s.1 ∙ sym (rest_same colors false after before a b);
+        place = λ n y. s.2 ∙ y;
+        set = λ t y. s.4 ∙ sym (looks_plain colors) ∙ ap (λ o. elim o [ None ↦ look colors no_style | Some u ↦ look colors u ]) y;
+      },
+    ))
 
-pub starts_counted : (known : Bool) (before after : List Cell) → Counts before after 0 (first_strokes known)
-starts_counted known before after = λ colors. first_prints colors known
+pub starts_counted : (known : Start) (before after : List Cell) → Counts before after 0 0 (first_strokes known)
+starts_counted known before after = λ colors. (0, refl, first_prints colors known)
 
-pub starts_fitting : (known : Bool) → AreFitting known (first_strokes known)
+pub starts_fitting : (known : Start) → AreFitting known (first_strokes known)
 starts_fitting known = ([], sym (append-nil (first_strokes known)), tt)
 
 -- ---- a cell
 
 -- The grid's cells before the place `k` is visited.
-abbrev stage : ColorOutput → List Cell → List Cell → ℕ → List Square
+abbrev pub stage : ColorOutput → List Cell → List Cell → ℕ → List Square
 stage colors before after k = take k (map (cell_look colors) after) ++ rest_from (drop k after) (map (cell_look colors) (drop k before))
 
 -- The cells of the next stage, if the cell isn't written.
@@ -81,7 +96,7 @@ stage_kept colors before after k b c lb la eb ec covered cv same ab aa =
     ] cv same
 
 -- A cell that is shown already, or is covered, is left.
-pub keeps : (known : Bool) (k width height : ℕ) (before after : List Cell) (cursor : Option ℕ) (style : Option ContentStyle) (strokes : List Stroke) (b c : Cell)
+pub keeps : (known : Start) (k width height : ℕ) (before after : List Cell) (cursor : Option ℕ) (style : Option ContentStyle) (strokes : List Stroke) (b c : Cell)
     → k < length before → k < length after → get_or before k b ≡ b → get_or after k c ≡ c → (is_covered c ≡ false → b ≡ c) → ArePaired false before → ArePaired false after
     → ReachesPlace known width height before after k cursor style strokes → ReachesPlace known width height before after (k + 1) cursor style strokes
 keeps known k width height before after cursor style strokes b c lb la eb ec e pb pa reached colors g s =
@@ -90,6 +105,7 @@ keeps known k width height before after cursor style strokes b c lb la eb ec e p
       ran,
       record {
         size = scanned.size;
+        seen = scanned.seen;
         cells = scanned.cells ∙ stage_kept colors before after k b c lb la eb ec (is_covered c) refl e (at_place colors before pb k (omega (arith, lb))) (at_place colors after pa k (omega (arith, la)));
         place = scanned.place;
         set = scanned.set;
@@ -123,7 +139,7 @@ stage_length colors before after k same le =
     omega (arith, le, length-append (take k (map (cell_look colors) after)) (rest_from (drop k after) old), front, back)
 
 -- A cell that is painted is shown.
-pub paints : (known : Bool) (k width height : ℕ) (before after : List Cell) (cursor : Option ℕ) (style : Option ContentStyle) (strokes : List Stroke) (b c : Cell) (there : Bool) (how : Setting) (row column : ℕ)
+pub paints : (known : Start) (k width height : ℕ) (before after : List Cell) (cursor : Option ℕ) (style : Option ContentStyle) (strokes : List Stroke) (b c : Cell) (there : Bool) (how : Setting) (row column : ℕ)
     → k < length before → k < length after → length before ≡ width * height → length after ≡ width * height → get_or before k b ≡ b → get_or after k c ≡ c
     → row < height → column < width → height < 2 ^ 32 → width < 2 ^ 32 → row * width + column ≡ k
     → Sets style c.style how → HasByteColors how → FitsCell (shown_text c) → is_covered c ≡ false → (is_wide c ≡ true → is_last width k ≡ false) → ArePaired false before → ArePaired false after
@@ -149,6 +165,7 @@ paints known k width height before after cursor style strokes b c there how row 
       runs,
       record {
         size = (wide, high, size);
+        seen = scanned.seen;
         cells = cells;
         place = λ n y. ap (λ w. right_of w (last_place k c)) wide ∙ y;
         set = λ t y. ap (λ o. elim o [ None ↦ look colors c.style | Some u ↦ look colors u ]) y;
@@ -159,16 +176,20 @@ pub placed_held : (c : Cell) → is_covered c ≡ false → IsPlaced c → FitsC
 placed_held c e (inl f) = let no : true ≡ false = sym f ∙ e in cc
 placed_held c e (inr p) = p.1
 
-pub keeps_counted : (before after : List Cell) (k : ℕ) (strokes : List Stroke) (b c : Cell) → k < length before → k < length after → get_or before k b ≡ b → get_or after k c ≡ c → (HasToBePrinted b c → ⊥)
-    → Counts before after k strokes → Counts before after (k + 1) strokes
-keeps_counted before after k strokes b c lb la eb ec e counts colors = same_at before after k (printed_count (tokens_of colors strokes)) b c lb la eb ec e (counts colors)
+pub keeps_counted : (before after : List Cell) (k again : ℕ) (strokes : List Stroke) (b c : Cell) → k < length before → k < length after → get_or before k b ≡ b → get_or after k c ≡ c → (HasToBePrinted b c → ⊥)
+    → Counts before after k again strokes → Counts before after (k + 1) again strokes
+keeps_counted before after k again strokes b c lb la eb ec e counts colors =
+    let (n, differ, count) = counts colors in
+    (n, same_at before after k n b c lb la eb ec e differ, count)
 
-pub paints_counted : (before after : List Cell) (k : ℕ) (strokes : List Stroke) (b c : Cell) (there : Bool) (how : Setting) (row column : ℕ) → k < length before → k < length after → get_or before k b ≡ b → get_or after k c ≡ c → HasToBePrinted b c
-    → Counts before after k strokes → Counts before after (k + 1) (strokes ++ cell_strokes there how column row c)
-paints_counted before after k strokes b c there how row column lb la eb ec e counts colors =
-    let one : printed_count (tokens_of colors (strokes ++ cell_strokes there how column row c)) ≡ printed_count (tokens_of colors strokes) + characters_of c =
-    strokes_printed colors strokes (cell_strokes there how column row c) ∙ ap (λ n. printed_count (tokens_of colors strokes) + n) (cell_prints colors there how column row c) in
-    subst (DifferAt (take (k + 1) before) (take (k + 1) after)) (sym one) (other_at before after k (printed_count (tokens_of colors strokes)) b c lb la eb ec e (counts colors))
+pub paints_counted : (before after : List Cell) (k again : ℕ) (strokes : List Stroke) (b c : Cell) (there : Bool) (how : Setting) (row column : ℕ) → k < length before → k < length after → get_or before k b ≡ b → get_or after k c ≡ c → HasToBePrinted b c
+    → Counts before after k again strokes → Counts before after (k + 1) again (strokes ++ cell_strokes there how column row c)
+paints_counted before after k again strokes b c there how row column lb la eb ec e counts colors =
+    let (n, differ, count) = counts colors in (
+      n + characters_of c,
+      other_at before after k n b c lb la eb ec e differ,
+      omega (arith, count, strokes_printed colors strokes (cell_strokes there how column row c), cell_prints colors there how column row c),
+    )
 
 cell_fitting : (there : Bool) (how : Setting) (column row : ℕ) (c : Cell) → column < 2 ^ 32 → row < 2 ^ 32 → FitsCell (shown_text c) → AllByRecursion IsFitting (cell_strokes there how column row c)
 cell_fitting true setting.Kept column row c k r f = (f, tt)
@@ -179,23 +200,24 @@ cell_fitting false (setting.Colors change) column row c k r f = ((k, r), (tt, (f
 cell_fitting false (setting.Whole s) column row c k r f = ((k, r), (tt, (f, tt)))
 
 -- Strokes that fit are followed by others that do.
-pub fitting_more : (known : Bool) (strokes more : List Stroke) → AreFitting known strokes → AllByRecursion IsFitting more → AreFitting known (strokes ++ more)
+pub fitting_more : (known : Start) (strokes more : List Stroke) → AreFitting known strokes → AllByRecursion IsFitting more → AreFitting known (strokes ++ more)
 fitting_more known strokes more a b = (
   a.0 ++ more,
   ap (λ l. l ++ more) a.1 ∙ append_assoc (first_strokes known) a.0 more,
   all_joined IsFitting a.0 more a.2 b,
 )
 
-pub paints_fitting : (known : Bool) (strokes : List Stroke) (there : Bool) (how : Setting) (column row : ℕ) (c : Cell) → column < 2 ^ 32 → row < 2 ^ 32 → FitsCell (shown_text c)
+pub paints_fitting : (known : Start) (strokes : List Stroke) (there : Bool) (how : Setting) (column row : ℕ) (c : Cell) → column < 2 ^ 32 → row < 2 ^ 32 → FitsCell (shown_text c)
     → AreFitting known strokes → AreFitting known (strokes ++ cell_strokes there how column row c)
 paints_fitting known strokes there how column row c k r f all = fitting_more known strokes (cell_strokes there how column row c) all (cell_fitting there how column row c k r f)
 
 -- ---- the end
 
 -- At the end all are shown.
-pub ends : (known : Bool) (k width height : ℕ) (before after : List Cell) (cursor : Option ℕ) (style : Option ContentStyle) (strokes : List Stroke) → length before ≡ width * height → length after ≡ width * height → width * height ≤ k
-    → ReachesPlace known width height before after k cursor style strokes → Counts before after k strokes → Spares known width before after strokes → Visited known width height before after strokes
-ends known k width height before after cursor style strokes lb la le reached counts few = record {
+pub ends : (known : Start) (k width height again : ℕ) (before after : List Cell) (cursor : Option ℕ) (style : Option ContentStyle) (strokes : List Stroke) → length before ≡ width * height → length after ≡ width * height → width * height ≤ k
+    → ReachesPlace known width height before after k cursor style strokes → Counts before after k again strokes → Sparing known width before after again cursor style strokes
+    → Visited known width height before after cursor style strokes
+ends known k width height again before after cursor style strokes lb la le reached counts few = record {
   leads = λ colors g s.
       let (h, ran, scanned) = reached colors g s in
       let new = map (cell_look colors) after in
@@ -205,13 +227,16 @@ ends known k width height before after cursor style strokes lb la le reached cou
       ∙ ap (λ l. begun (map (cell_look colors) l)) (drop_all k before (subst (λ n. n ≤ k) (sym lb) le)) in (
         h,
         ran,
-        (
-          scanned.size,
-          scanned.cells ∙ ap (λ l. take k new ++ l) nothing ∙ append-nil (take k new) ∙ take_all k new (subst (λ n. n ≤ k) (sym long) le),
-        ),
+        record {
+          size = scanned.size;
+          seen = scanned.seen;
+          cells = scanned.cells ∙ ap (λ l. take k new ++ l) nothing ∙ append-nil (take k new) ∙ take_all k new (subst (λ n. n ≤ k) (sym long) le);
+          place = scanned.place;
+          set = scanned.set;
+        },
       );
-  count = λ colors.
-      subst (λ l. DifferAt l after (printed_count (tokens_of colors strokes))) (take_all k before (subst (λ n. n ≤ k) (sym lb) le))
-      (subst (λ l. DifferAt (take k before) l (printed_count (tokens_of colors strokes))) (take_all k after (subst (λ n. n ≤ k) (sym la) le)) (counts colors));
-  spares = few;
+  again = again;
+  count = subst (λ l. CountsAll l after again strokes) (take_all k before (subst (λ n. n ≤ k) (sym lb) le))
+      (subst (λ l. CountsAll (take k before) l again strokes) (take_all k after (subst (λ n. n ≤ k) (sym la) le)) counts);
+  sparing = few;
 }

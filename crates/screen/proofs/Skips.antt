@@ -1,9 +1,10 @@
 -- Cells that are the same are passed over, and those that differ are copied.
-use Rattle.std.proofs.Common.{◌≡◌, ◌⊎◌, ℕ, zero, suc, ◌+◌, ◌-◌, ◌<◌, ◌≤◌, Bool, true, false, if◌then◌else◌, List, Option, set, length, get_or, refl, sym, ap, ◌∙◌, subst, arith, inl, inr}
+use Rattle.std.proofs.Common.{◌≡◌, ◌⊎◌, ℕ, zero, suc, ◌+◌, ◌-◌, ◌<◌, ◌≤◌, true, false, if◌then◌else◌, List, Option, set, length, take, get_or, refl, sym, ap, ◌∙◌, subst, arith, inl, inr}
 use Rattle.std.proofs.lemmas.Bool.{cases_lt}
 use Rattle.std.proofs.lemmas.List.{ext_get_or, get_or-set_other, get_or_default, length-set}
 use Rattle.std.proofs.lemmas.Grind.{get_or-set_at}
 use Rattle.crossterm_style.specs.declared.content_style.ContentStyle.{ContentStyle}
+use Rattle.screen.specs.declared.starts.Start.{Start}
 use Rattle.screen.specs.declared.strokes.Stroke.{Stroke}
 use Rattle.screen.specs.Cells.{ArePaired, Cell, blank, is_covered, is_wide, last_place}
 use Rattle.screen.specs.Updates.{HasToBePrinted}
@@ -69,13 +70,14 @@ copied_second before after cells new k last c long le copied others = record {
 -- ---- the strokes
 
 -- What the strokes have done before a place.
-pub record Stage (known : Bool) (width height : ℕ) (before after : List Cell) (strokes : List Stroke) (cursor : Option ℕ) (style : Option ContentStyle) (at : ℕ) : Type 0 where
+pub record Stage (known : Start) (width height : ℕ) (before after : List Cell) (strokes : List Stroke) (cursor : Option ℕ) (style : Option ContentStyle) (at : ℕ) : Type 0 where
   pub reached : ReachesPlace known width height before after at cursor style strokes
-  pub counted : Counts before after at strokes
-  pub sparing : Sparing known width before after at cursor style strokes
+  pub again : ℕ
+  pub counted : Counts before after at again strokes
+  pub sparing : Sparing known width (take at before) (take at after) again cursor style strokes
 
 -- Nothing has to be done for a cell that is the same, or is covered: that is there with the one before.
-skipped : (known : Bool) (width height : ℕ) (before after : List Cell) (strokes : List Stroke) (cursor : Option ℕ) (style : Option ContentStyle) (k : ℕ)
+skipped : (known : Start) (width height : ℕ) (before after : List Cell) (strokes : List Stroke) (cursor : Option ℕ) (style : Option ContentStyle) (k : ℕ)
     → ArePaired false before → ArePaired false after → k < length before → k < length after → (is_covered (get_or after k blank) ≡ false → get_or before k blank ≡ get_or after k blank)
     → Stage known width height before after strokes cursor style k → Stage known width height before after strokes cursor style (k + 1)
 skipped known width height before after strokes cursor style k pb pa lb la same s =
@@ -86,18 +88,19 @@ skipped known width height before after strokes cursor style k pb pa lb la same 
     let none : HasToBePrinted b c → ⊥ = λ p. p.1 (same p.0) in
     record {
       reached = keeps known k width height before after cursor style strokes b c lb la eb ec same pb pa s.reached;
-      counted = keeps_counted before after k strokes b c lb la eb ec none s.counted;
-      sparing = spares_kept known width before after k cursor style strokes b c lb la eb ec none s.sparing;
+      again = s.again;
+      counted = keeps_counted before after k s.again strokes b c lb la eb ec none s.counted;
+      sparing = spares_kept known width before after k s.again cursor style strokes b c lb la eb ec none s.sparing;
     }
 
-pub stage_covered : (known : Bool) (width height : ℕ) (before after : List Cell) (strokes : List Stroke) (cursor : Option ℕ) (style : Option ContentStyle) (k : ℕ)
+pub stage_covered : (known : Start) (width height : ℕ) (before after : List Cell) (strokes : List Stroke) (cursor : Option ℕ) (style : Option ContentStyle) (k : ℕ)
     → ArePaired false before → ArePaired false after → length before ≡ length after → k < length after → is_covered (get_or after k blank) ≡ true
     → Stage known width height before after strokes cursor style k → Stage known width height before after strokes cursor style (k + 1)
 stage_covered known width height before after strokes cursor style k pb pa l la covered s =
     skipped known width height before after strokes cursor style k pb pa (omega (arith, l, la)) la (λ e. let no : true ≡ false = sym covered ∙ e in cc) s
 
 -- Nor for the second cell of a character, if it has one.
-pub stage_second : (known : Bool) (width height : ℕ) (before after : List Cell) (strokes : List Stroke) (cursor : Option ℕ) (style : Option ContentStyle) (k last : ℕ)
+pub stage_second : (known : Start) (width height : ℕ) (before after : List Cell) (strokes : List Stroke) (cursor : Option ℕ) (style : Option ContentStyle) (k last : ℕ)
     → ArePaired false before → ArePaired false after → length before ≡ length after → k < length after → last < length after → last ≡ last_place k (get_or after k blank)
     → Stage known width height before after strokes cursor style (k + 1) → Stage known width height before after strokes cursor style (last + 1)
 stage_second known width height before after strokes cursor style k last pb pa l la bound is s =
@@ -111,7 +114,7 @@ stage_second known width height before after strokes cursor style k last pb pa l
     ] refl is
 
 -- Nor for several cells that are the same.
-skipped_all : (n : ℕ) (known : Bool) (width height : ℕ) (before after : List Cell) (strokes : List Stroke) (cursor : Option ℕ) (style : Option ContentStyle) (k : ℕ)
+skipped_all : (n : ℕ) (known : Start) (width height : ℕ) (before after : List Cell) (strokes : List Stroke) (cursor : Option ℕ) (style : Option ContentStyle) (k : ℕ)
     → ArePaired false before → ArePaired false after → length before ≡ length after → k + n ≤ length after → AreSame before after k (k + n)
     → Stage known width height before after strokes cursor style k → Stage known width height before after strokes cursor style (k + n)
 skipped_all zero known width height before after strokes cursor style k pb pa l le same s =
@@ -123,7 +126,7 @@ skipped_all (suc n) known width height before after strokes cursor style k pb pa
     subst (Stage known width height before after strokes cursor style) more
     (skipped_all n known width height before after strokes cursor style (k + 1) pb pa l (omega (arith, le)) (λ j from below. same j (omega (arith, from)) (omega (arith, below))) first)
 
-pub stage_skipped : (known : Bool) (width height : ℕ) (before after : List Cell) (strokes : List Stroke) (cursor : Option ℕ) (style : Option ContentStyle) (k to : ℕ)
+pub stage_skipped : (known : Start) (width height : ℕ) (before after : List Cell) (strokes : List Stroke) (cursor : Option ℕ) (style : Option ContentStyle) (k to : ℕ)
     → ArePaired false before → ArePaired false after → length before ≡ length after → k ≤ to → to ≤ length after → AreSame before after k to
     → Stage known width height before after strokes cursor style k → Stage known width height before after strokes cursor style to
 stage_skipped known width height before after strokes cursor style k to pb pa l le bound same s =

@@ -19,15 +19,20 @@ use Rattle.crossterm_style.specs.declared.types.colored.Colored.{Colored}
 use Rattle.crossterm_style.specs.declared.types.colored.Colored.TheVariants.{ForegroundColor, BackgroundColor, UnderlineColor}
 use Rattle.screen.specs.declared.settings.Setting.{Setting}
 use Rattle.screen.specs.declared.settings.Setting.TheVariants as setting
+use Rattle.screen.specs.declared.starts.Start.{Start}
+use Rattle.screen.specs.declared.starts.Start.TheVariants as start
 use Rattle.screen.specs.declared.strokes.Stroke.{Stroke}
 use Rattle.screen.specs.declared.strokes.Stroke.TheVariants as stroke
-use Rattle.screen.specs.Cells.{Cell, last_place}
+use Rattle.screen.specs.Cells.{Cell, blank, last_place}
+use Rattle.screen.specs.Drawings.{DifferAt, printed_count}
 use Rattle.screen.specs.Grids.{right_of}
-use Rattle.screen.specs.Updates.{ArePrinted, HasSameStyle, HasToBePrinted, IsBeside, IsBetween, IsOneUpdate, IsSparing, Placed, HasRuns, begin_update, begins_with_style, changes, end_moves, end_styles, how_many, is_move, is_other, is_style, longest_style}
-use Rattle.screen.specs.inside.Scans.{Continues, Spares, Sparing}
+use Rattle.screen.specs.Strips.{IsLean, cursor_stops}
+use Rattle.screen.specs.Updates.{ArePrinted, HasSameStyle, HasToBePrinted, IsBeside, IsBetween, IsOneUpdate, IsSparing, Placed, HasRuns, HasRunsFrom, begin_update, begins_with_style, changes, end_moves, end_others, end_styles, how_many, is_move, is_other, is_style, longest_style}
+use Rattle.screen.specs.inside.Scans.{BeginsUpdate, Continues, IsAt, IsSet, Spares, Sparing, first_others, first_styles, known_cursor, known_style, start_by}
 use Rattle.screen.specs.inside.Settings.{Sets, is_kept}
-use Rattle.screen.specs.inside.Strokes.{IsInner, cell_strokes, color_tokens, cursor_strokes, first_strokes, is_move_stroke, is_other_stroke, is_style_stroke, last_strokes, tokens, tokens_of}
+use Rattle.screen.specs.inside.Strokes.{IsInner, again_strokes, cell_strokes, color_tokens, cursor_strokes, first_strokes, is_move_stroke, is_other_stroke, is_style_stroke, last_strokes, stop_strokes, tokens, tokens_of}
 use Rattle.screen.proofs.Runs.{SetsStyle, style_sets}
+use Rattle.screen.proofs.Crossings.{Comes, again_inner, again_none}
 use Rattle.screen.proofs.Recolorings.{kept_there}
 
 -- ---- counts
@@ -250,38 +255,42 @@ one_update colors strokes within e a = (
 
 -- ---- runs
 
-runs_more : {X : Type 0} (R : X → X → Type 0) (xs : List X) (y : X) (n : ℕ) → Continues R xs y → HasRuns R xs n → HasRuns R (xs ++ y ∷ []) n
-runs_more R [] y n c r = absurd c
-runs_more R (x ∷ []) y n c r = inl (c, r)
-runs_more R (x ∷ z ∷ xs) y n c r = elim r [
-  | inl p ↦ inl (p.0, runs_more R (z ∷ xs) y n c p.1)
-  | inr q ↦ inr (q.0, q.1, q.2, runs_more R (z ∷ xs) y q.1 c q.3)
+runs_more : {X : Type 0} (S : X → Type 0) (R : X → X → Type 0) (xs : List X) (y : X) (n : ℕ) → Continues S R xs y → HasRunsFrom S R xs n → HasRunsFrom S R (xs ++ y ∷ []) n
+runs_more S R [] y n c r = inl (c, r)
+runs_more S R (x ∷ xs) y n c r = elim r [
+  | inl p ↦ inl (p.0, runs_more (R x) R xs y n c p.1)
+  | inr q ↦ inr (q.0, q.1, q.2, runs_more (R x) R xs y q.1 c q.3)
 ]
 
-runs_new : {X : Type 0} (R : X → X → Type 0) (xs : List X) (y : X) (n : ℕ) → (Continues R xs y → ⊥) → HasRuns R xs n → HasRuns R (xs ++ y ∷ []) (n + 1)
-runs_new R [] y n c r = omega (arith, r)
-runs_new R (x ∷ []) y n c r = inr (c, 1, omega (arith, r), refl)
-runs_new R (x ∷ z ∷ xs) y n c r = elim r [
-  | inl p ↦ inl (p.0, runs_new R (z ∷ xs) y n c p.1)
-  | inr q ↦ inr (q.0, q.1 + 1, ap (λ k. k + 1) q.2, runs_new R (z ∷ xs) y q.1 c q.3)
+runs_new : {X : Type 0} (S : X → Type 0) (R : X → X → Type 0) (xs : List X) (y : X) (n : ℕ) → (Continues S R xs y → ⊥) → HasRunsFrom S R xs n → HasRunsFrom S R (xs ++ y ∷ []) (n + 1)
+runs_new S R [] y n c r = inr (c, 0, omega (arith, r), refl)
+runs_new S R (x ∷ xs) y n c r = elim r [
+  | inl p ↦ inl (p.0, runs_new (R x) R xs y n c p.1)
+  | inr q ↦ inr (q.0, q.1 + 1, ap (λ k. k + 1) q.2, runs_new (R x) R xs y q.1 c q.3)
 ]
 
-continues_to : {X : Type 0} (R : X → X → Type 0) (xs : List X) (x y : X) → Continues R (xs ++ x ∷ []) y → R x y
-continues_to R [] x y c = c
-continues_to R (a ∷ []) x y c = c
-continues_to R (a ∷ b ∷ xs) x y c = continues_to R (b ∷ xs) x y c
+continues_to : {X : Type 0} (S : X → Type 0) (R : X → X → Type 0) (xs : List X) (x y : X) → Continues S R (xs ++ x ∷ []) y → R x y
+continues_to S R [] x y c = c
+continues_to S R (a ∷ xs) x y c = continues_to (R a) R xs x y c
 
-continues_from : {X : Type 0} (R : X → X → Type 0) (xs : List X) (x y : X) → R x y → Continues R (xs ++ x ∷ []) y
-continues_from R [] x y c = c
-continues_from R (a ∷ []) x y c = c
-continues_from R (a ∷ b ∷ xs) x y c = continues_from R (b ∷ xs) x y c
+continues_from : {X : Type 0} (S : X → Type 0) (R : X → X → Type 0) (xs : List X) (x y : X) → R x y → Continues S R (xs ++ x ∷ []) y
+continues_from S R [] x y c = c
+continues_from S R (a ∷ xs) x y c = continues_from (R a) R xs x y c
+
+-- Only what holds for the first element counts.
+runs_as : {X : Type 0} (S T : X → Type 0) (R : X → X → Type 0) (xs : List X) (n : ℕ) → ((x : X) → S x → T x) → ((x : X) → T x → S x) → HasRunsFrom S R xs n → HasRunsFrom T R xs n
+runs_as S T R [] n to back r = r
+runs_as S T R (x ∷ xs) n to back r = elim r [
+  | inl p ↦ inl (to x p.0, p.1)
+  | inr q ↦ inr (λ t. q.0 (back x t), q.1, q.2, q.3)
+]
 
 -- One more element: whether the last one is related to it decides if there is one more run, and the count grows only
 -- then.
-runs_push : {X : Type 0} (R : X → X → Type 0) (xs : List X) (y : X) (n m e : ℕ) (there : Bool) → (there ≡ true → Continues R xs y) → (Continues R xs y → there ≡ true) → HasRuns R xs n → m ≤ n + e
-    → (k : ℕ) × HasRuns R (xs ++ y ∷ []) k × (m + cond there 0 1 ≤ k + e)
-runs_push R xs y n m e true goes back r le = (n, runs_more R xs y n (goes refl) r, omega (arith, le))
-runs_push R xs y n m e false goes back r le = (n + 1, runs_new R xs y n (λ c. let f : false ≡ true = back c in cc) r, omega (arith, le))
+runs_push : {X : Type 0} (S : X → Type 0) (R : X → X → Type 0) (xs : List X) (y : X) (n m e : ℕ) (there : Bool) → (there ≡ true → Continues S R xs y) → (Continues S R xs y → there ≡ true)
+    → HasRunsFrom S R xs n → m ≤ n + e → (k : ℕ) × HasRunsFrom S R (xs ++ y ∷ []) k × (m + cond there 0 1 ≤ k + e)
+runs_push S R xs y n m e true goes back r le = (n, runs_more S R xs y n (goes refl) r, omega (arith, le))
+runs_push S R xs y n m e false goes back r le = (n + 1, runs_new S R xs y n (λ c. let f : false ≡ true = back c in cc) r, omega (arith, le))
 
 -- ---- what has to be printed
 
@@ -315,23 +324,34 @@ grown xs k x lt e = take_more xs k x lt ∙ ap (λ y. take k xs ++ (y ∷ [])) e
 -- ---- strokes so far
 
 -- The strokes that begin a frame.
-pub spares_start : (known : Bool) (width : ℕ) (before after : List Cell) → Sparing known width before after 0 None None (first_strokes known)
-spares_start true width before after = record {
-  spares = record { all = []; printed = refl; moves = (0, refl, omega arith); styles = (0, refl, omega arith); others = omega arith; begun = ([], refl, tt) };
-  beside = λ x. ((λ c. absurd c), (λ e. cc));
-  same = λ x. ((λ c. absurd c), (λ e. cc));
+pub spares_start : (known : Start) (width : ℕ) (before after : List Cell) → Sparing known width (take 0 before) (take 0 after) 0 (known_cursor known) (known_style known) (first_strokes known)
+spares_start start.Nothing width before after = record {
+  spares = record { all = []; printed = refl; moves = (0, 0, refl, omega arith, omega arith); styles = (0, refl, omega arith); others = omega arith; begun = (stroke.Style no_style ∷ stroke.Erase ∷ [], refl, (tt, (tt, tt))) };
+  beside = λ x. ((λ c. c), (λ e. e));
+  same = λ x. ((λ c. c), (λ e. e));
 }
-spares_start false width before after = record {
-  spares = record { all = []; printed = refl; moves = (0, refl, omega arith); styles = (0, refl, omega arith); others = omega arith; begun = (stroke.Style no_style ∷ stroke.Erase ∷ [], refl, (tt, (tt, tt))) };
-  beside = λ x. ((λ c. absurd c), (λ e. cc));
-  same = λ x. ((λ c. absurd c), (λ e. cc));
+spares_start start.Cells width before after = record {
+  spares = record { all = []; printed = refl; moves = (0, 0, refl, omega arith, omega arith); styles = (0, refl, omega arith); others = omega arith; begun = ([], refl, tt) };
+  beside = λ x. ((λ c. c), (λ e. e));
+  same = λ x. ((λ c. c), (λ e. e));
+}
+spares_start (start.All at) width before after = record {
+  spares = record { all = []; printed = refl; moves = (0, 0, refl, omega arith, omega arith); styles = (0, refl, omega arith); others = omega arith; begun = tt };
+  beside = λ x. ((λ c. c), (λ e. e));
+  same = λ x. ((λ c. c), (λ e. e));
 }
 
+-- More strokes within the update.
+begins_more : (known : Start) (strokes more : List Stroke) → AllByRecursion IsInner more → BeginsUpdate known strokes → BeginsUpdate known (strokes ++ more)
+begins_more start.Nothing strokes more a begun = (begun.0 ++ more, ap (λ l. l ++ more) begun.1, all_joined IsInner begun.0 more begun.2 a)
+begins_more start.Cells strokes more a begun = (begun.0 ++ more, ap (λ l. l ++ more) begun.1, all_joined IsInner begun.0 more begun.2 a)
+begins_more (start.All at) strokes more a begun = tt
+
 -- A place for which nothing is printed.
-pub spares_kept : (known : Bool) (width : ℕ) (before after : List Cell) (k : ℕ) (cursor : Option ℕ) (style : Option ContentStyle) (strokes : List Stroke) (b c : Cell)
+pub spares_kept : (known : Start) (width : ℕ) (before after : List Cell) (k again : ℕ) (cursor : Option ℕ) (style : Option ContentStyle) (strokes : List Stroke) (b c : Cell)
     → k < length before → k < length after → get_or before k b ≡ b → get_or after k c ≡ c → (HasToBePrinted b c → ⊥)
-    → Sparing known width before after k cursor style strokes → Sparing known width before after (k + 1) cursor style strokes
-spares_kept known width before after k cursor style strokes b c lb la eb ec e s = record {
+    → Sparing known width (take k before) (take k after) again cursor style strokes → Sparing known width (take (k + 1) before) (take (k + 1) after) again cursor style strokes
+spares_kept known width before after k again cursor style strokes b c lb la eb ec e s = record {
   spares = record {
     all = s.spares.all;
     printed = subst (λ l. ArePrinted 0 l (take (k + 1) after) s.spares.all) (sym (grown before k b lb eb))
@@ -380,43 +400,81 @@ cell_inner false setting.Kept column row c = (tt, (tt, tt))
 cell_inner false (setting.Colors change) column row c = (tt, (tt, (tt, tt)))
 cell_inner false (setting.Whole s) column row c = (tt, (tt, (tt, tt)))
 
+-- Characters that are printed again aren't other strokes.
+no_moves : (strokes : List Stroke) (cells : List Cell) → how_many is_move_stroke (strokes ++ again_strokes cells) ≡ how_many is_move_stroke strokes
+no_moves strokes cells = omega (arith, how_many_joined is_move_stroke strokes (again_strokes cells), again_none is_move_stroke (λ c marks. refl) cells)
+
+no_styles : (strokes : List Stroke) (cells : List Cell) → how_many is_style_stroke (strokes ++ again_strokes cells) ≡ how_many is_style_stroke strokes
+no_styles strokes cells = omega (arith, how_many_joined is_style_stroke strokes (again_strokes cells), again_none is_style_stroke (λ c marks. refl) cells)
+
+no_others : (strokes : List Stroke) (cells : List Cell) → how_many is_other_stroke (strokes ++ again_strokes cells) ≡ how_many is_other_stroke strokes
+no_others strokes cells = omega (arith, how_many_joined is_other_stroke strokes (again_strokes cells), again_none is_other_stroke (λ c marks. refl) cells)
+
+-- One more stop: the cursor moves only if it isn't there, and few characters that are printed again save a move.
+move_pushed : (known : Start) (width : ℕ) (before after : List Cell) (again : ℕ) (cursor : Option ℕ) (style : Option ContentStyle) (strokes : List Stroke) (x : Placed) (there : Bool) (more : ℕ) → Comes cursor x.at there more
+    → (s : Sparing known width before after again cursor style strokes)
+    → (i : ℕ) × (saved : ℕ) × HasRunsFrom (IsAt (known_cursor known)) (IsBeside width) (s.spares.all ++ x ∷ []) i × (again + more ≤ 3 * saved) × (how_many is_move_stroke strokes + cond there 0 1 + saved ≤ i)
+move_pushed known width before after again cursor style strokes x there more comes s =
+    let (n, saved, runs, few, moves) = s.spares.moves in
+    let count = how_many is_move_stroke strokes in
+    let S = IsAt (known_cursor known) in
+    let R = IsBeside width in
+    let all = s.spares.all in
+    elim comes [
+      | inl p ↦
+          let pushed = runs_push S R all x n (count + saved) 0 there (λ y. (s.beside x).1 (p.1.0 y)) (λ y. p.1.1 ((s.beside x).0 y)) runs (omega (arith, moves)) in
+          (pushed.0, saved, pushed.1, omega (arith, few, p.0), omega (arith, pushed.2))
+      | inr q ↦
+          let pushed = runs_push S R all x n (count + saved) 0 false (λ y. cc) (λ y. absurd (q.2 ((s.beside x).0 y))) runs (omega (arith, moves)) in (
+            pushed.0,
+            saved + 1,
+            pushed.1,
+            omega (arith, few, q.1),
+            subst (λ b. count + cond b 0 1 + (saved + 1) ≤ pushed.0) (sym q.0) (omega (arith, pushed.2)),
+          )
+    ]
+
+-- The style is set only if it isn't set already.
+style_pushed : (known : Start) (width : ℕ) (before after : List Cell) (again : ℕ) (cursor : Option ℕ) (style : Option ContentStyle) (strokes : List Stroke) (x : Placed) (how : Setting) → (is_kept how ≡ true) ↔ (style ≡ Some x.cell.style)
+    → (s : Sparing known width before after again cursor style strokes)
+    → (i : ℕ) × HasRunsFrom (IsSet (known_style known)) HasSameStyle (s.spares.all ++ x ∷ []) i × (how_many is_style_stroke strokes + cond (is_kept how) 0 1 ≤ i + first_styles known)
+style_pushed known width before after again cursor style strokes x how set s =
+    let styles : (n : ℕ) × HasRunsFrom (IsSet (known_style known)) HasSameStyle s.spares.all n × (how_many is_style_stroke strokes ≤ n + first_styles known) = s.spares.styles in
+    runs_push (IsSet (known_style known)) HasSameStyle s.spares.all x styles.0 (how_many is_style_stroke strokes) (first_styles known) (is_kept how) (λ y. (s.same x).1 (set.0 y)) (λ y. set.1 ((s.same x).0 y)) styles.1 styles.2
+
 -- A place for which a character is printed: the cursor moves and the style is set only if that is necessary.
-pub spares_painted : (known : Bool) (width : ℕ) (before after : List Cell) (k : ℕ) (cursor : Option ℕ) (style : Option ContentStyle) (strokes : List Stroke) (b c : Cell) (there : Bool) (how : Setting) (column row : ℕ)
-    → k < length before → k < length after → get_or before k b ≡ b → get_or after k c ≡ c → HasToBePrinted b c → (there ≡ true) ↔ (cursor ≡ Some k) → Sets style c.style how
-    → Sparing known width before after k cursor style strokes
-    → Sparing known width before after (k + 1) (right_of width (last_place k c)) (Some c.style) (strokes ++ cell_strokes there how column row c)
-spares_painted known width before after k cursor style strokes b c there how column row lb la eb ec e at sets s =
+pub spares_painted : (known : Start) (width : ℕ) (before after : List Cell) (k again : ℕ) (cursor : Option ℕ) (style : Option ContentStyle) (strokes : List Stroke) (cells : List Cell) (b c : Cell) (there : Bool) (how : Setting) (column row : ℕ)
+    → k < length before → k < length after → get_or before k b ≡ b → get_or after k c ≡ c → HasToBePrinted b c → Comes cursor k there (length cells) → Sets style c.style how
+    → Sparing known width (take k before) (take k after) again cursor style strokes
+    → Sparing known width (take (k + 1) before) (take (k + 1) after) (again + length cells) (right_of width (last_place k c)) (Some c.style) ((strokes ++ again_strokes cells) ++ cell_strokes there how column row c)
+spares_painted known width before after k again cursor style strokes cells b c there how column row lb la eb ec e comes sets s =
     let set = kept_there style c.style how sets in
     let more = cell_strokes there how column row c in
+    let front = strokes ++ again_strokes cells in
     let all = s.spares.all in
     let x = placed k c in
     let long : 0 + length (take k before) ≡ k = omega (arith, length-take-le k before (omega (arith, lb))) in
-    let moves : (n : ℕ) × HasRuns (IsBeside width) all n × (how_many is_move_stroke strokes ≤ n) = s.spares.moves in
-    let styles : (n : ℕ) × HasRuns HasSameStyle all n × (how_many is_style_stroke strokes + 1 ≤ n + end_styles known) = s.spares.styles in
-    let begun : (within : List Stroke) × (strokes ≡ stroke.Begin ∷ within) × AllByRecursion IsInner within = s.spares.begun in
-    let moved : (i : ℕ) × HasRuns (IsBeside width) (all ++ x ∷ []) i × (how_many is_move_stroke strokes + cond there 0 1 ≤ i + 0) =
-    runs_push (IsBeside width) all x moves.0 (how_many is_move_stroke strokes) 0 there (λ y. (s.beside x).1 (at.0 y)) (λ y. at.1 ((s.beside x).0 y)) moves.1 (omega (arith, moves.2)) in
-    let styled : (i : ℕ) × HasRuns HasSameStyle (all ++ x ∷ []) i × (how_many is_style_stroke strokes + 1 + cond (is_kept how) 0 1 ≤ i + end_styles known) =
-    runs_push HasSameStyle all x styles.0 (how_many is_style_stroke strokes + 1) (end_styles known) (is_kept how) (λ y. (s.same x).1 (set.0 y)) (λ y. set.1 ((s.same x).0 y)) styles.1 styles.2 in
+    let moved = move_pushed known width (take k before) (take k after) again cursor style strokes x there (length cells) comes s in
+    let styled = style_pushed known width (take k before) (take k after) again cursor style strokes x how set s in
     record {
       spares = record {
         all = all ++ x ∷ [];
         printed = subst (λ l. ArePrinted 0 l (take (k + 1) after) (all ++ x ∷ [])) (sym (grown before k b lb eb))
             (subst (λ l. ArePrinted 0 (take k before ++ b ∷ []) l (all ++ x ∷ [])) (sym (grown after k c la ec)) (printed_more 0 k (take k before) (take k after) b c all long e s.spares.printed));
-        moves = (moved.0, moved.1, omega (arith, moved.2, how_many_joined is_move_stroke strokes more, cell_moves there how column row c));
-        styles = (styled.0, styled.1, omega (arith, styled.2, how_many_joined is_style_stroke strokes more, cell_styles there how column row c));
-        others = omega (arith, s.spares.others, how_many_joined is_other_stroke strokes more, cell_others there how column row c);
-        begun = (begun.0 ++ more, ap (λ l. l ++ more) begun.1, all_joined IsInner begun.0 more begun.2 (cell_inner there how column row c));
+        moves = (moved.0, moved.1, moved.2, moved.3, omega (arith, moved.4, how_many_joined is_move_stroke front more, no_moves strokes cells, cell_moves there how column row c));
+        styles = (styled.0, styled.1, omega (arith, styled.2, how_many_joined is_style_stroke front more, no_styles strokes cells, cell_styles there how column row c));
+        others = omega (arith, s.spares.others, how_many_joined is_other_stroke front more, no_others strokes cells, cell_others there how column row c);
+        begun = begins_more known front more (cell_inner there how column row c) (begins_more known strokes (again_strokes cells) (again_inner cells) s.spares.begun);
       };
-      beside = λ y. ((λ r. continues_to (IsBeside width) all x y r), (λ r. continues_from (IsBeside width) all x y r));
-      same = λ y. ((λ r. ap Some (continues_to HasSameStyle all x y r)), (λ r. continues_from HasSameStyle all x y (some_same c.style y.cell.style r)));
+      beside = λ y. ((λ r. continues_to (IsAt (known_cursor known)) (IsBeside width) all x y r), (λ r. continues_from (IsAt (known_cursor known)) (IsBeside width) all x y r));
+      same = λ y. ((λ r. ap Some (continues_to (IsSet (known_style known)) HasSameStyle all x y r)), (λ r. continues_from (IsSet (known_style known)) HasSameStyle all x y (some_same c.style y.cell.style r)));
     }
 
 -- At the end these are all.
-pub spares_all : (known : Bool) (width k : ℕ) (before after : List Cell) (cursor : Option ℕ) (style : Option ContentStyle) (strokes : List Stroke) → length before ≤ k → length after ≤ k
-    → Sparing known width before after k cursor style strokes → Spares known width before after strokes
-spares_all known width k before after cursor style strokes lb la s =
-    subst (λ l. Spares known width l after strokes) (take_all k before lb) (subst (λ l. Spares known width (take k before) l strokes) (take_all k after la) s.spares)
+pub spares_all : (known : Start) (width k again : ℕ) (before after : List Cell) (cursor : Option ℕ) (style : Option ContentStyle) (strokes : List Stroke) → length before ≤ k → length after ≤ k
+    → Sparing known width (take k before) (take k after) again cursor style strokes → Sparing known width before after again cursor style strokes
+spares_all known width k again before after cursor style strokes lb la s =
+    subst (λ l. Sparing known width l after again cursor style strokes) (take_all k before lb) (subst (λ l. Sparing known width (take k before) l again cursor style strokes) (take_all k after la) s)
 
 -- ---- the end of a frame
 
@@ -440,30 +498,109 @@ closing_inner : (cursor : Option (ℕ × ℕ)) → AllByRecursion IsInner (closi
 closing_inner None = (tt, (tt, tt))
 closing_inner (Some place) = (tt, (tt, (tt, tt)))
 
-pub updated : (known : Bool) (width : ℕ) (before after : List Cell) (cursor : Option (ℕ × ℕ)) (strokes : List Stroke) → Spares known width before after strokes → (colors : ColorOutput)
+begun_of : (known : Bool) (strokes : List Stroke) → BeginsUpdate (start_by known) strokes → (within : List Stroke) × (strokes ≡ stroke.Begin ∷ within) × AllByRecursion IsInner within
+begun_of true strokes begun = begun
+begun_of false strokes begun = begun
+
+pub updated : (known : Bool) (width : ℕ) (before after : List Cell) (cursor : Option (ℕ × ℕ)) (again : ℕ) (strokes : List Stroke) → Spares (start_by known) width before after again strokes → (colors : ColorOutput)
     → IsOneUpdate (tokens_of colors (strokes ++ last_strokes cursor))
-updated known width before after cursor strokes s colors =
-    let begun : (within : List Stroke) × (strokes ≡ stroke.Begin ∷ within) × AllByRecursion IsInner within = s.begun in
+updated known width before after cursor again strokes s colors =
+    let begun = begun_of known strokes s.begun in
     one_update colors (strokes ++ last_strokes cursor) (begun.0 ++ closing cursor)
     (ap (λ l. l ++ last_strokes cursor) begun.1 ∙ ap (λ l. stroke.Begin ∷ l) (sym (append_assoc begun.0 (closing cursor) (stroke.End ∷ []))))
     (all_joined IsInner begun.0 (closing cursor) begun.2 (closing_inner cursor))
 
-pub sparing : (known : Bool) (width : ℕ) (before after : List Cell) (cursor : Option (ℕ × ℕ)) (strokes : List Stroke) → Spares known width before after strokes → (colors : ColorOutput)
-    → IsSparing known width before after cursor (tokens_of colors (strokes ++ last_strokes cursor))
-sparing known width before after cursor strokes s colors =
+-- If neither the cursor's place nor the style is known at the beginning, each run begins anew.
+fresh_moves : (known : Bool) (width : ℕ) (all : List Placed) (n : ℕ) → HasRunsFrom (IsAt (known_cursor (start_by known))) (IsBeside width) all n → HasRuns (IsBeside width) all n
+fresh_moves true width all n r = runs_as (IsAt None) (λ x. ⊥) (IsBeside width) all n (λ x e. cc) (λ x e. absurd e) r
+fresh_moves false width all n r = runs_as (IsAt None) (λ x. ⊥) (IsBeside width) all n (λ x e. cc) (λ x e. absurd e) r
+
+fresh_styles : (known : Bool) (all : List Placed) (n : ℕ) → HasRunsFrom (IsSet (known_style (start_by known))) HasSameStyle all n → HasRuns HasSameStyle all n
+fresh_styles true all n r = runs_as (IsSet None) (λ x. ⊥) HasSameStyle all n (λ x e. cc) (λ x e. absurd e) r
+fresh_styles false all n r = runs_as (IsSet None) (λ x. ⊥) HasSameStyle all n (λ x e. cc) (λ x e. absurd e) r
+
+ended_styles : (known : Bool) → first_styles (start_by known) + 1 ≡ end_styles known
+ended_styles true = refl
+ended_styles false = refl
+
+ended_others : (known : Bool) → first_others (start_by known) + 2 ≡ end_others known
+ended_others true = refl
+ended_others false = refl
+
+pub sparing : (known : Bool) (width : ℕ) (before after : List Cell) (cursor : Option (ℕ × ℕ)) (again : ℕ) (strokes : List Stroke) → Spares (start_by known) width before after again strokes → (colors : ColorOutput)
+    → IsSparing known width before after cursor again (tokens_of colors (strokes ++ last_strokes cursor))
+sparing known width before after cursor again strokes s colors =
     let ends = last_strokes cursor in
     let all = strokes ++ ends in
-    let moves : (n : ℕ) × HasRuns (IsBeside width) s.all n × (how_many is_move_stroke strokes ≤ n) = s.moves in
-    let styles : (n : ℕ) × HasRuns HasSameStyle s.all n × (how_many is_style_stroke strokes + 1 ≤ n + end_styles known) = s.styles in
+    let (n, saved, runs, few, moves) = s.moves in
+    let styles : (n : ℕ) × HasRunsFrom (IsSet (known_style (start_by known))) HasSameStyle s.all n × (how_many is_style_stroke strokes ≤ n + first_styles (start_by known)) = s.styles in
     record {
       all = s.all;
       printed = s.printed;
-      moves = (moves.0, moves.1, omega (arith, moves.2, of_strokes is_move is_move_stroke moves_each colors all, how_many_joined is_move_stroke strokes ends, last_moves cursor));
+      moves = (n, saved, fresh_moves known width s.all n runs, few, omega (arith, moves, of_strokes is_move is_move_stroke moves_each colors all, how_many_joined is_move_stroke strokes ends, last_moves cursor));
       styles = (
         styles.0,
-        styles.1,
-        omega (arith, styles.2, changes_of colors all, how_many_joined is_style_stroke strokes ends, last_styles cursor),
-        omega (arith, styles.2, style_of colors all, how_many_joined is_style_stroke strokes ends, last_styles cursor),
+        fresh_styles known s.all styles.0 styles.1,
+        omega (arith, styles.2, ended_styles known, changes_of colors all, how_many_joined is_style_stroke strokes ends, last_styles cursor),
+        omega (arith, styles.2, ended_styles known, style_of colors all, how_many_joined is_style_stroke strokes ends, last_styles cursor),
       );
-      others = omega (arith, s.others, of_strokes is_other is_other_stroke others_each colors all, how_many_joined is_other_stroke strokes ends, last_others cursor);
+      others = omega (arith, s.others, ended_others known, of_strokes is_other is_other_stroke others_each colors all, how_many_joined is_other_stroke strokes ends, last_others cursor);
+    }
+
+-- ---- the end of a frame right behind the last one
+
+stop_moves : (there : Bool) (how : Setting) (column : ℕ) → how_many is_move_stroke (stop_strokes there how column) ≡ cond there 0 1
+stop_moves true setting.Kept column = refl
+stop_moves true (setting.Colors change) column = refl
+stop_moves true (setting.Whole s) column = refl
+stop_moves false setting.Kept column = refl
+stop_moves false (setting.Colors change) column = refl
+stop_moves false (setting.Whole s) column = refl
+
+stop_styles : (there : Bool) (how : Setting) (column : ℕ) → how_many is_style_stroke (stop_strokes there how column) ≡ cond (is_kept how) 0 1
+stop_styles true setting.Kept column = refl
+stop_styles true (setting.Colors change) column = refl
+stop_styles true (setting.Whole s) column = refl
+stop_styles false setting.Kept column = refl
+stop_styles false (setting.Colors change) column = refl
+stop_styles false (setting.Whole s) column = refl
+
+stop_others : (there : Bool) (how : Setting) (column : ℕ) → how_many is_other_stroke (stop_strokes there how column) ≡ 0
+stop_others true setting.Kept column = refl
+stop_others true (setting.Colors change) column = refl
+stop_others true (setting.Whole s) column = refl
+stop_others false setting.Kept column = refl
+stop_others false (setting.Colors change) column = refl
+stop_others false (setting.Whole s) column = refl
+
+pub short : (width : ℕ) (before after : List Cell) (from column again : ℕ) (cursor : Option ℕ) (style : Option ContentStyle) (strokes : List Stroke) (cells : List Cell) (there : Bool) (how : Setting)
+    → Comes cursor column there (length cells) → Sets style no_style how → Sparing (start.All from) width before after again cursor style strokes → (colors : ColorOutput)
+    → (n : ℕ) × DifferAt before after n × (printed_count (tokens_of colors ((strokes ++ again_strokes cells) ++ stop_strokes there how column)) ≡ n + (again + length cells))
+    → IsLean width before after from column (tokens_of colors ((strokes ++ again_strokes cells) ++ stop_strokes there how column))
+short width before after from column again cursor style strokes cells there how comes sets s colors count =
+    let ends = stop_strokes there how column in
+    let front = strokes ++ again_strokes cells in
+    let all = front ++ ends in
+    let x = placed column blank in
+    let moved = move_pushed (start.All from) width before after again cursor style strokes x there (length cells) comes s in
+    let styled = style_pushed (start.All from) width before after again cursor style strokes x how (kept_there style no_style how sets) s in
+    record {
+      all = s.spares.all;
+      printed = s.spares.printed;
+      again = again + length cells;
+      count = count;
+      moves = (
+        moved.0,
+        moved.1,
+        runs_as (IsAt (Some from)) (λ y. y.at ≡ from) (IsBeside width) (cursor_stops s.spares.all column) moved.0 (λ y e. sym (some_same from y.at e)) (λ y e. ap Some (sym e)) moved.2,
+        moved.3,
+        omega (arith, moved.4, of_strokes is_move is_move_stroke moves_each colors all, how_many_joined is_move_stroke front ends, no_moves strokes cells, stop_moves there how column),
+      );
+      styles = (
+        styled.0,
+        runs_as (IsSet (Some no_style)) (λ y. y.cell.style ≡ no_style) HasSameStyle (cursor_stops s.spares.all column) styled.0 (λ y e. sym (some_same no_style y.cell.style e)) (λ y e. ap Some (sym e)) styled.1,
+        omega (arith, styled.2, changes_of colors all, how_many_joined is_style_stroke front ends, no_styles strokes cells, stop_styles there how column),
+        omega (arith, styled.2, style_of colors all, how_many_joined is_style_stroke front ends, no_styles strokes cells, stop_styles there how column),
+      );
+      others = omega (arith, s.spares.others, of_strokes is_other is_other_stroke others_each colors all, how_many_joined is_other_stroke front ends, no_others strokes cells, stop_others there how column);
     }

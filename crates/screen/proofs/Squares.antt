@@ -35,10 +35,10 @@ kept_start true wide c s e = cc
 kept_start false true c s e = refl
 kept_start false false c s e = refl
 
-not_first : (colors : ColorOutput) (c : Cell) → is_wide c ≡ false → without_second (cell_look colors c) ≡ cell_look colors c
+pub not_first : (colors : ColorOutput) (c : Cell) → is_wide c ≡ false → without_second (cell_look colors c) ≡ cell_look colors c
 not_first colors c e = kept_end (is_covered c) (is_wide c) (shown_text c) (look colors c.style) e
 
-not_second : (colors : ColorOutput) (c : Cell) → is_covered c ≡ false → without_first (cell_look colors c) ≡ cell_look colors c
+pub not_second : (colors : ColorOutput) (c : Cell) → is_covered c ≡ false → without_first (cell_look colors c) ≡ cell_look colors c
 not_second colors c e = kept_start (is_covered c) (is_wide c) (shown_text c) (look colors c.style) e
 
 pub seen_covered : (colors : ColorOutput) (c : Cell) → is_covered c ≡ true → cell_look colors c ≡ Second
@@ -64,7 +64,7 @@ begins : (first : Bool) (cells : List Cell) → ArePaired first cells → begins
 begins first [] p = sym p
 begins first (c ∷ cells) p = p.0
 
-begun_same : (colors : ColorOutput) (cells : List Cell) → ArePaired false cells → begun (map (cell_look colors) cells) ≡ map (cell_look colors) cells
+pub begun_same : (colors : ColorOutput) (cells : List Cell) → ArePaired false cells → begun (map (cell_look colors) cells) ≡ map (cell_look colors) cells
 begun_same colors [] p = refl
 begun_same colors (c ∷ cells) p = ap (λ x. x ∷ map (cell_look colors) cells) (not_second colors c p.0)
 
@@ -84,10 +84,10 @@ begun_drop_two (x ∷ xs) = refl
 
 -- ---- the cells from a place on
 
-abbrev behind : Bool → List Square → List Square
+abbrev pub behind : Bool → List Square → List Square
 behind first old = cond first (Second ∷ begun (drop 1 old)) (begun old)
 
-rest_by : (first : Bool) (after : List Cell) (old : List Square) → ArePaired first after → rest_from after old ≡ behind first old
+pub rest_by : (first : Bool) (after : List Cell) (old : List Square) → ArePaired first after → rest_from after old ≡ behind first old
 rest_by first after old p = ap (λ b. behind b old) (begins first after p)
 
 -- If nothing changes, all cells stay as they were.
@@ -112,7 +112,7 @@ rest_kept colors c after before e a b =
     ∙ ap (λ l. cell_look colors c ∷ l) (sym (rest_same colors (is_wide c) after before a b))
 
 -- Cells that are overwritten behind others.
-overwritten_behind : (cells front back others : List Square) (k : ℕ) → cells ≡ front ++ back → length front ≡ k → ended front ≡ front
+pub overwritten_behind : (cells front back others : List Square) (k : ℕ) → cells ≡ front ++ back → length front ≡ k → ended front ≡ front
     → overwritten cells k others ≡ front ++ (others ++ begun (drop (length others) back))
 overwritten_behind cells front back others k e long whole =
     ap (λ l. overwritten l k others) e
@@ -145,7 +145,7 @@ rest_painted colors c after cells front old k e p is long whole =
 
 -- ---- a place within cells
 
-ended_push : (xs : List Square) (x : Square) → ended (xs ++ x ∷ []) ≡ xs ++ without_second x ∷ []
+pub ended_push : (xs : List Square) (x : Square) → ended (xs ++ x ∷ []) ≡ xs ++ without_second x ∷ []
 ended_push [] x = refl
 ended_push (a ∷ []) x = refl
 ended_push (a ∷ b ∷ xs) x = ap (λ l. a ∷ l) (ended_push (b ∷ xs) x)

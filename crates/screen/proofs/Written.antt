@@ -17,6 +17,8 @@ use Rattle.crossterm_style.specs.Styles.{attribute_functions, act_tokens}
 use Rattle.crossterm.specs.Sequences.{by, clear}
 use Rattle.crossterm.specs.declared.terminal.ClearType.TheVariants.{All, UntilNewLine}
 use Rattle.crossterm.proofs.StyleReadings.{Formed, attribute_formed, style_plain, tokens_formed}
+use Rattle.screen.specs.declared.starts.Start.{Start}
+use Rattle.screen.specs.declared.starts.Start.TheVariants as start
 use Rattle.screen.specs.declared.strokes.Stroke.{Stroke}
 use Rattle.screen.specs.declared.strokes.Stroke.TheVariants as stroke
 use Rattle.screen.specs.Grids.{takes_one, takes_two}
@@ -99,9 +101,10 @@ strokes_formed in_row colors [] f = tt
 strokes_formed in_row colors (s ∷ strokes) f =
     all_joined IsWellFormed (written in_row colors s) (written_of in_row colors strokes) (written_formed in_row colors s f.0) (strokes_formed in_row colors strokes f.1)
 
-first_read : (known : Bool) → AllByRecursion IsRead (first_strokes known)
-first_read true = (tt, tt)
-first_read false = (tt, (tt, (tt, tt)))
+first_read : (known : Start) → AllByRecursion IsRead (first_strokes known)
+first_read start.Nothing = (tt, (tt, (tt, tt)))
+first_read start.Cells = (tt, tt)
+first_read (start.All at) = tt
 
 fitting_read : (s : Stroke) → IsFitting s → IsRead s
 fitting_read stroke.Begin f = tt
@@ -119,7 +122,7 @@ later_read [] f = tt
 later_read (s ∷ strokes) f = (fitting_read s f.0, later_read strokes f.1)
 
 -- Their text reads as their tokens.
-pub strokes_read : (in_row : Bool) (colors : ColorOutput) (known : Bool) (strokes : List Stroke) → AreFitting known strokes → ReadsAs (text_of (written_of in_row colors strokes)) (written_of in_row colors strokes)
+pub strokes_read : (in_row : Bool) (colors : ColorOutput) (known : Start) (strokes : List Stroke) → AreFitting known strokes → ReadsAs (text_of (written_of in_row colors strokes)) (written_of in_row colors strokes)
 strokes_read in_row colors known strokes f = (
   subst (λ l. Formed (written_of in_row colors l)) (sym f.1)
       (strokes_formed in_row colors (first_strokes known ++ f.0) (all_joined IsRead (first_strokes known) f.0 (first_read known) (later_read f.0 f.2))),

@@ -100,12 +100,14 @@ cells_before s colors = cells_drawn s s.drawn colors
 pub record IsFrame (s : View) (colors : ColorOutput) (p : Picture) (cursor : Option (ℕ × ℕ)) (ts : List Token) : Type 0 where
   -- The tokens lead from each grid that the terminal may show to one that shows the picture.
   pub turns : TurnsInto s colors p cursor ts
-  -- The tokens print the characters of the cells that have to be printed, and no others.
-  pub count : DifferAt (cells_before s colors) p.cells (printed_count ts)
+  -- How many characters are printed that are shown already.
+  pub again : ℕ
+  -- Beside those, the tokens print the characters of the cells that have to be printed, and no others.
+  pub count : (n : ℕ) × DifferAt (cells_before s colors) p.cells n × (printed_count ts ≡ n + again)
   -- The tokens are one synchronized update.
   pub update : IsOneUpdate ts
   -- The tokens have no more moves, styles and other control functions than a frame needs.
-  pub sparing : IsSparing (knows_cells s.drawn colors) p.width (cells_before s colors) p.cells cursor ts
+  pub sparing : IsSparing (knows_cells s.drawn colors) p.width (cells_before s colors) p.cells cursor again ts
 
 -- ---- what is refused
 

@@ -1,5 +1,5 @@
 -- A strip: a frame in the row of a terminal in which the cursor is. Nothing else of the terminal changes.
-use Rattle.std.specs.Prelude.{◌≡◌, ⊤, IfSome, ℕ, ◌+◌, ◌*◌, ◌-◌, ◌<◌, ◌==◌, true, false, List, [], ◌∷◌, ◌++◌, Option, Some, None, codes, flat_map, if◌then◌else◌, length, map, replicate}
+use Rattle.std.specs.Prelude.{◌≡◌, ⊤, IfSome, ℕ, ◌+◌, ◌*◌, ◌-◌, ◌<◌, ◌≤◌, ◌==◌, Bool, true, false, List, [], ◌∷◌, ◌++◌, Option, Some, None, codes, flat_map, if◌then◌else◌, length, map, replicate}
 use Rattle.std.specs.List.{slice_split}
 use Rattle.std.specs.Option.{option_map}
 use Rattle.crossterm_command.specs.Tokens.{Token, text_of}
@@ -7,13 +7,15 @@ use Rattle.crossterm_command.specs.Tokens.Token.{Csi}
 use Rattle.crossterm_command.specs.Writing.{AppendsFront}
 use Rattle.crossterm_command.specs.declared.color_output.ColorOutput.{ColorOutput}
 use Rattle.crossterm_style.specs.Looks.{plain}
+use Rattle.crossterm_style.specs.Styles.{no_style}
 use Rattle.screen.specs.declared.faults.DrawFault.{DrawFault}
 use Rattle.screen.specs.declared.faults.DrawFault.TheVariants.{Size, Cursor, Command}
 use Rattle.screen.specs.Buffers.{Picture}
-use Rattle.screen.specs.Cells.{Cell, cell_look}
-use Rattle.screen.specs.Drawings.{IsFrame}
+use Rattle.screen.specs.Cells.{Cell, blank, cell_look}
+use Rattle.screen.specs.Drawings.{DifferAt, IsFrame, cells_before, knows_cells, printed_count}
 use Rattle.screen.specs.Grids.{Grid, Square, begun, blank_square, ended, run}
 use Rattle.screen.specs.Screens.{Drawn, View}
+use Rattle.screen.specs.Updates.{ArePrinted, HasRunsFrom, HasSameStyle, IsBeside, Placed, changes, how_many, is_move, is_other, is_style, longest_style}
 
 -- ---- a strip
 
@@ -22,6 +24,8 @@ pub record StripView : Type 0 where
   pub width : ℕ
   -- What was drawn last, or `None` if nothing is known of the row's cells.
   pub drawn : Option Drawn
+  -- The column in which the last frame left the cursor, or `None` if it hid it or nothing is known.
+  pub left : Option ℕ
   -- How many cells there is memory for.
   pub room : ℕ
 
@@ -102,6 +106,55 @@ pub record IsRowFrame (s : StripView) (colors : ColorOutput) (p : Picture) (curs
   -- They are those of a frame of a screen of one row, each replaced by what does the same in a row.
   pub frame : (us : List Token) × (ts ≡ flat_map in_row us) × IsFrame (as_screen s) colors p (in_first_row cursor) us
 
+-- ---- a frame right behind the last one
+
+-- From each grid with a row that shows what was drawn last, the tokens lead to one with a row that shows the picture.
+-- In that grid the cursor has to be visible in the column in which it was left, and the plain style has to be set.
+abbrev pub TurnsNext : StripView → ColorOutput → Picture → ℕ → ℕ → List Token → Type 0
+TurnsNext s colors p from column ts =
+    (above row below : List Square) (g : Grid) → LiesIn s.width above row below g → ShowsLast s.drawn (g.width - s.width) row
+    → HasColumn (Some from) (length above) g → g.style ≡ plain
+    → (h : Grid) × (new : List Square) × (run ts g ≡ Some h) × ShowsRow s.width colors p (Some column) above new below g h
+
+-- The stops of the cursor: at the characters that have to be printed, and at last in a column, in the plain style.
+abbrev pub cursor_stops : List Placed → ℕ → List Placed
+cursor_stops all column = all ++ record { at = column; cell = blank } ∷ []
+
+-- The tokens print the cells of a row that have to be printed. They have no move, no style and no other control
+-- function without need. In place of a move over a few cells these may be printed again.
+pub record IsLean (width : ℕ) (before after : List Cell) (from column : ℕ) (ts : List Token) : Type 0 where
+  -- The characters that have to be printed, with their places.
+  pub all : List Placed
+  pub printed : ArePrinted 0 before after all
+  -- How many characters are printed that are shown already.
+  pub again : ℕ
+  -- Beside those, the tokens print the characters that have to be printed, and no others.
+  pub count : (n : ℕ) × DifferAt before after n × (printed_count ts ≡ n + again)
+  -- A move leads to a stop that isn't right behind the one before it. Before the first one the cursor is in the column
+  -- in which it was left. In place of each move that is saved at most three characters are printed again.
+  pub moves : (n : ℕ) × (saved : ℕ) × HasRunsFrom (λ x. x.at ≡ from) (IsBeside width) (cursor_stops all column) n
+      × (again ≤ 3 * saved) × (how_many is_move ts + saved ≤ n)
+  -- A style is set at a stop in another one than before it. Before the first one it is plain.
+  pub styles : (n : ℕ) × HasRunsFrom (λ x. x.cell.style ≡ no_style) HasSameStyle (cursor_stops all column) n
+      × (changes ts ≤ n) × (how_many is_style ts ≤ longest_style * n)
+  pub others : how_many is_other ts ≡ 0
+
+-- The tokens of a frame for who wrote nothing else since the last one, which left the cursor in this column.
+pub record IsShortFrame (s : StripView) (colors : ColorOutput) (p : Picture) (from column : ℕ) (ts : List Token) : Type 0 where
+  pub turns : TurnsNext s colors p from column ts
+  -- They are those of a screen of one row, each replaced by what does the same in a row.
+  pub frame : (us : List Token) × (ts ≡ flat_map in_row us) × IsLean s.width (cells_before (as_screen s) colors) p.cells from column us
+
+-- The same, or a frame that assumes nothing of cursor and style, if the cells aren't known, or the cursor was or will be
+-- hidden.
+abbrev pub IsFrameBy : Bool → Option ℕ → StripView → ColorOutput → Picture → Option ℕ → List Token → Type 0
+IsFrameBy true (Some from) s colors p (Some column) ts = IsShortFrame s colors p from column ts
+IsFrameBy known left s colors p cursor ts = IsRowFrame s colors p cursor ts
+
+-- The tokens of a frame right behind the last one.
+abbrev pub IsNextFrame : StripView → ColorOutput → Picture → Option ℕ → List Token → Type 0
+IsNextFrame s colors p cursor ts = IsFrameBy (knows_cells s.drawn colors) s.left s colors p cursor ts
+
 -- ---- what is refused
 
 -- The picture has the strip's width and one row.
@@ -112,19 +165,23 @@ IsOneRow s p = (p.width ≡ s.width) × (p.height ≡ 1)
 abbrev pub ColumnFits : StripView → Option ℕ → Type 0
 ColumnFits s cursor = IfSome cursor (λ column. column < s.width)
 
--- The strip after these cells were drawn.
-abbrev pub with_row : StripView → ColorOutput → List Cell → StripView
-with_row s colors cells = record s { drawn = Some (record { colors = colors; cells = cells }) }
+-- The strip after these cells were drawn, with the cursor in this column or hidden.
+abbrev pub with_row : StripView → ColorOutput → List Cell → Option ℕ → StripView
+with_row s colors cells cursor = record s { drawn = Some (record { colors = colors; cells = cells }); left = cursor }
 
 -- The strip if it isn't known what the row shows.
 abbrev pub without_row : StripView → StripView
-without_row s = record s { drawn = None }
+without_row s = record s { drawn = None; left = None }
 
--- Why a row wasn't drawn. At a wrong size or cursor, nothing is written and the strip is unchanged.
--- After a fault of a command, the strip is forgotten, and a prefix of the frame's text was written.
-abbrev pub RowNotDrawn : DrawFault → StripView → StripView → ColorOutput → Picture → Option ℕ → Option (List ℕ) → Option (List ℕ) → Type 0
-RowNotDrawn Size s t colors p cursor old new = (IsOneRow s p → ⊥) × (t ≡ s) × (new ≡ old)
-RowNotDrawn Cursor s t colors p cursor old new = IsOneRow s p × (ColumnFits s cursor → ⊥) × (t ≡ s) × (new ≡ old)
-RowNotDrawn (Command fault) s t colors p cursor old new =
+-- The strip if neither the cursor's column nor the style that is set is known.
+abbrev pub without_cursor : StripView → StripView
+without_cursor s = record s { left = None }
+
+-- Why a row wasn't drawn by a frame of these tokens. At a wrong size or cursor, nothing is written and the strip is
+-- unchanged. After a fault of a command, the strip is forgotten, and a prefix of the frame's text was written.
+abbrev pub RowNotDrawn : DrawFault → StripView → StripView → Picture → Option ℕ → (List Token → Type 0) → Option (List ℕ) → Option (List ℕ) → Type 0
+RowNotDrawn Size s t p cursor Frame old new = (IsOneRow s p → ⊥) × (t ≡ s) × (new ≡ old)
+RowNotDrawn Cursor s t p cursor Frame old new = IsOneRow s p × (ColumnFits s cursor → ⊥) × (t ≡ s) × (new ≡ old)
+RowNotDrawn (Command fault) s t p cursor Frame old new =
     IsOneRow s p × ColumnFits s cursor × (t ≡ without_row s)
-    × (ts : List Token) × IsRowFrame s colors p cursor ts × AppendsFront old new (text_of ts)
+    × (ts : List Token) × Frame ts × AppendsFront old new (text_of ts)

@@ -76,11 +76,15 @@ ArePrinted at (a ∷ before) (b ∷ after) xs =
     ⊎ (HasToBePrinted a b × (ys : List Placed) × (xs ≡ record { at = at; cell = b } ∷ ys) × ArePrinted (at + 1) before after ys)
 ArePrinted at before after xs = ⊥
 
+-- `n` runs begin in the list. An element begins one unless it is related to the one before it, or, if it is the first,
+-- `S` holds for it.
+abbrev pub HasRunsFrom : {X : Type 0} → (X → Type 0) → (X → X → Type 0) → List X → ℕ → Type 0
+HasRunsFrom S R [] n = n ≡ 0
+HasRunsFrom S R (x ∷ xs) n = (S x × HasRunsFrom (R x) R xs n) ⊎ ((S x → ⊥) × (m : ℕ) × (n ≡ m + 1) × HasRunsFrom (R x) R xs m)
+
 -- The list has `n` runs. Within a run each element is related to the next, and between two runs it isn't.
 abbrev pub HasRuns : {X : Type 0} → (X → X → Type 0) → List X → ℕ → Type 0
-HasRuns R [] n = n ≡ 0
-HasRuns R (x ∷ []) n = n ≡ 1
-HasRuns R (x ∷ y ∷ xs) n = (R x y × HasRuns R (y ∷ xs) n) ⊎ ((R x y → ⊥) × (m : ℕ) × (n ≡ m + 1) × HasRuns R (y ∷ xs) m)
+HasRuns R xs n = HasRunsFrom (λ x. ⊥) R xs n
 
 -- The second character is right behind the first one, in the same row.
 abbrev pub IsBeside : ℕ → Placed → Placed → Type 0
@@ -111,13 +115,15 @@ end_others known = if known then 3 else 4
 abbrev pub longest_style : ℕ
 longest_style = 32
 
--- The tokens have few moves and styles. `known` is whether the cells `before` are known to be on the terminal.
-pub record IsSparing (known : Bool) (width : ℕ) (before after : List Cell) (cursor : Option (ℕ × ℕ)) (ts : List Token) : Type 0 where
+-- The tokens have few moves and styles. `known` is whether the cells `before` are known to be on the terminal. `again`
+-- is how many characters are printed that are shown already.
+pub record IsSparing (known : Bool) (width : ℕ) (before after : List Cell) (cursor : Option (ℕ × ℕ)) (again : ℕ) (ts : List Token) : Type 0 where
   -- The characters that have to be printed, with their places.
   pub all : List Placed
   pub printed : ArePrinted 0 before after all
-  -- Beside those at the frame's ends, one move at most for each run of characters side by side.
-  pub moves : (n : ℕ) × HasRuns (IsBeside width) all n × (how_many is_move ts ≤ n + end_moves cursor)
+  -- Beside those at the frame's ends, one move at most for each run of characters side by side. In place of each move
+  -- that is saved, at most three characters are printed that are shown already.
+  pub moves : (n : ℕ) × (saved : ℕ) × HasRuns (IsBeside width) all n × (again ≤ 3 * saved) × (how_many is_move ts + saved ≤ n + end_moves cursor)
   -- Beside those at the frame's ends, one style at most for each run of characters in one style. There are at most 32
   -- SGR for each.
   pub styles : (n : ℕ) × HasRuns HasSameStyle all n × (changes ts ≤ n + end_styles known) × (how_many is_style ts ≤ longest_style * (n + end_styles known))

@@ -2,8 +2,11 @@ pub mod Edits
 pub mod Edges
 pub mod Settings
 pub mod Strokes
+pub mod Bridges
 pub mod Scans
 pub mod Pens
+pub mod Leaving
 pub mod Packed
 pub mod Marked
 pub mod FirstParts
+pub mod Ascii

@@ -104,6 +104,10 @@ pub(crate) fn symbol_fault(symbol: char) -> Option<CellFault>
     ensures value { result ≡ symbol_fault symbol }
     ensures printed { result ≡ None → IsPrinted symbol }
 {
+    // A printable character of ASCII has no fault: no table is read for it.
+    if ' ' <= symbol && symbol <= '~' {
+        return None;
+    }
     if is_joined(symbol) {
         return Some(CellFault::Joined);
     }
@@ -125,6 +129,10 @@ pub(crate) fn symbol_fault(symbol: char) -> Option<CellFault>
 pub(crate) fn takes_two(symbol: char) -> bool
     ensures { result ≡ takes_two symbol }
 {
+    // No character before the Hangul letters takes two columns: no table is read for it.
+    if symbol < '\u{1100}' {
+        return false;
+    }
     match symbol.width() {
         None => false,
         Some(width) => width == 2,

@@ -1,7 +1,8 @@
 //! A screen above crossterm: a program fills a `Buffer`, and `Screen::draw` writes what makes the terminal show it.
 //!
-//! Only cells that changed are written. Neighbours are written without a move between them, and a style only if it is another than before.
-//! Each frame is one synchronized update.
+//! Cells that changed are written, and others only if that is shorter than a move over them: up to three letters of ASCII without marks, in
+//! the style that is set. Neighbours are written without a move between them, and a style only if it is another than before. Each frame is one
+//! synchronized update.
 //!
 //! ```
 //! let mut buffer = Buffer::new(alloc, 80, 24)?;
@@ -18,6 +19,10 @@
 //! A `Strip` is one row of a terminal, the one in which the cursor is. Its frames say columns alone, so that a line editor draws without asking
 //! which row it is. The promise is for terminals with more columns than the strip has: from each grid whose row shows what was drawn last, what
 //! `draw` writes leads to one whose row shows the buffer, and is blank behind it. All other cells stay.
+//!
+//! Who draws alone calls `Strip::draw_next`, which makes the same promise if nothing was written since the last frame: then the cursor is still
+//! shown in the column in which that left it, and the plain style is set. Such a frame has no move, no style and no other control function that
+//! it doesn't need, so that a letter or a blank that is typed at a line's end is one byte, and a frame without a change is empty.
 //!
 //! A character of a buffer takes one column or two. One of two columns has two cells: its own, and behind it a covered one with the character 0
 //! and the same style. Both are in one row. What is written over one of the two leaves a space in the other, in the style that it had.
@@ -44,11 +49,12 @@
 //!
 //! | Proved | By the contract of |
 //! |---|---|
-//! | a frame shows the buffer (the fourth theorem): it leads from each grid that shows the last one to a grid that shows this one, with the cursor at the place that was asked for, and prints the characters of each cell that differs, marks included, and no others | `Screen::draw` |
-//! | a frame is one synchronized update; it has at most one move for each run of characters side by side, one setting of the style for each run of characters in one style, and a handful at its ends | `Screen::draw` |
+//! | a frame shows the buffer (the fourth theorem): it leads from each grid that shows the last one to a grid that shows this one, with the cursor at the place that was asked for, and prints the characters of each cell that differs, marks included, and no others but a few in place of moves | `Screen::draw` |
+//! | a frame is one synchronized update; it has at most one move for each run of characters side by side, or in place of the move at most three characters that are shown already, one setting of the style for each run of characters in one style, and a handful at its ends | `Screen::draw` |
 //! | a screen has as much memory after a frame as before; screens and buffers give none back, and a size that they have memory for isn't refused | `Screen::{draw, new, resize}`, `Buffer::{new, resize, fill, set, print, print_replacing, print_without_marks, print_in, border, set_style, fill_area}` |
 //! | a wrong size or place writes nothing and changes nothing; at any other error a beginning of the frame was written and nothing else, and nothing is known of the cells | `Screen::draw` |
 //! | a frame of a strip turns the cursor's row into the buffer's, wherever it is, and nothing else; it is a frame of a screen of one row with CHA for CUP, and CHA and EL for ED, and is refused as such a frame | `Strip::draw` |
+//! | a frame right behind the last one of a strip relies on the cursor's column after that: it prints the cells that differ, moves only to one that isn't right behind the one before it, or prints at most three again in place of that, sets a style only if it changes, and writes nothing else. If the cells or that column aren't known, it is a frame as of `draw` | `Strip::draw_next` |
 //! | a strip has as much memory after a frame as before; it gives none back, and a width that it has memory for isn't refused | `Strip::{new, resize, draw}` |
 //! | a character that no cell can hold is refused by name, `set` refuses one of two in a row's last column too, and a refusal changes nothing | `Buffer::{fill, set, print, print_replacing, print_without_marks, print_in, border}` |
 //! | a cell has the character and the style that it was made of, each colour and attribute of it, and its marks in their order | `Cell::{new, symbol, marks, style}`, `Marks::{len, is_empty, get, fmt}` |
@@ -82,9 +88,9 @@
 //! | `Areas` | 46 | a style over a rectangle, and a character in all places of one | `Buffer::{set_style, fill_area}` |
 //! | `Scrolls` | 54 | which entries of a list are in sight, and how far it scrolls | `ListState` |
 //! | `Screens` | 18 | a screen, and what it drew last | `Screen` |
-//! | `Updates` | 125 | which characters have to be printed, and how few moves and styles do it | `Screen::draw` |
-//! | `Drawings` | 141 | what a frame does to each grid, how many characters it prints, and what is refused | `Screen::draw`, `From<DrawFault>` of `io::Error` |
-//! | `Strips` | 130 | a strip, how it lies in a grid, what a frame does to its row and with which tokens, and what is refused | `Strip` |
+//! | `Updates` | 131 | which characters have to be printed, and how few moves and styles do it | `Screen::draw` |
+//! | `Drawings` | 143 | what a frame does to each grid, how many characters it prints, and what is refused | `Screen::draw`, `From<DrawFault>` of `io::Error` |
+//! | `Strips` | 187 | a strip, how it lies in a grid, what a frame does to its row and with which tokens, and what is refused | `Strip` |
 //!
 //! `specs/inside/` says the same of a frame's parts, and no public clause cites it.
 //!
@@ -94,6 +100,7 @@
 mod alignment;
 mod areas;
 mod borders;
+mod bridges;
 mod buffers;
 mod cells;
 mod differences;
@@ -108,6 +115,7 @@ mod planning;
 mod rects;
 mod screens;
 mod settings;
+mod starts;
 mod strips;
 mod strokes;
 mod texts;

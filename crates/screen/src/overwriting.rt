@@ -25,7 +25,7 @@ fn covered(style: PackedStyle) -> Cell
 }
 
 /// Before a place, a character that is to lose its second cell leaves a space in its first one.
-fn end_before(cells: &mut [Cell], at: usize)
+pub(crate) fn end_before(cells: &mut [Cell], at: usize)
     requires { at ≤ length cells.old }
     ensures { cells.new ≡ ended (take at cells.old) ++ drop at cells.old }
 {
@@ -39,7 +39,7 @@ fn end_before(cells: &mut [Cell], at: usize)
 }
 
 /// At a place, a character that is to lose its first cell leaves a space in its second one.
-fn begin_at(cells: &mut [Cell], at: usize)
+pub(crate) fn begin_at(cells: &mut [Cell], at: usize)
     requires { at ≤ length cells.old }
     ensures { cells.new ≡ take at cells.old ++ begun (drop at cells.old) }
 {

@@ -1,21 +1,28 @@
 //! The strokes of a frame.
-ghost use Rattle.std.specs.Prelude.{◌≡◌, ◌⊎◌, ◌++◌, ◌+◌, ◌*◌, ◌<◌, ◌≤◌, ◌^◌, ◌↔◌, ⊤, ℕ, OnErr, OnOk, IfSome, IsTrue, List, ◌∷◌, [], get_or, length, slice_get, true, false, Some};
+ghost use Rattle.std.specs.Prelude.{◌≡◌, ◌⊎◌, ◌++◌, ◌+◌, ◌*◌, ◌<◌, ◌≤◌, ◌^◌, ◌↔◌, ⊤, Bool, ℕ, OnErr, OnOk, IfSome, IsTrue, List, ◌∷◌, [], get_or, length, slice_get, true, false, Some};
 ghost use Rattle.std.specs.Io.KnownBytes.{Appends};
 ghost use Rattle.std.specs.List.{All};
 ghost use Rattle.crossterm_command.specs.Tokens.{text_of};
 ghost use Rattle.crossterm_command.specs.Writing.{AppendsFront};
-ghost use Rattle.screen.specs.Cells.{ArePaired, StayInRows, IsPlaced, blank, last_place};
+ghost use Rattle.screen.specs.Cells.{ArePaired, Cell as CellValue, StayInRows, IsPlaced, blank, last_place};
 ghost use Rattle.screen.specs.Grids.{right_of};
+ghost use Rattle.crossterm_style.specs.Styles.{no_style};
+ghost use Rattle.screen.specs.declared.settings.Setting.{Setting};
+ghost use Rattle.screen.specs.declared.starts.Start.TheVariants as start;
 ghost use Rattle.screen.specs.declared.strokes.Stroke.{Stroke};
+ghost use Rattle.screen.specs.inside.Bridges.{Approaches};
 ghost use Rattle.screen.specs.inside.Pens.{PutsStrokes};
-ghost use Rattle.screen.specs.inside.Scans.{IsSized, Planned, Visited};
-ghost use Rattle.screen.specs.inside.Strokes.{AreFitting, cell_strokes, cursor_strokes, first_strokes, last_strokes, move_strokes, style_strokes, written_of};
+ghost use Rattle.screen.specs.inside.Scans.{IsSized, Planned, PlannedNext, Visited, start_by};
+ghost use Rattle.screen.specs.inside.Settings.{HasByteColors, Sets};
+ghost use Rattle.screen.specs.inside.Strokes.{AreFitting, again_strokes, cell_strokes, cursor_strokes, first_strokes, last_strokes, move_strokes, stop_strokes, style_strokes, written_of};
 
+use crate::bridges::approach;
 use crate::cells::{Cell, is_covered};
 use crate::differences::next_difference;
 use crate::packed::PackedStyle;
 use crate::pens::{Pen, finish, put};
 use crate::settings::{Setting, setting_of};
+use crate::starts::Start;
 use crate::strokes::Stroke;
 use crossterm_command::{ColorOutput, CommandFault};
 use crossterm_style::ContentStyle;
@@ -68,17 +75,7 @@ fn paint<W: io::Write>(
     put(writer, pen, Stroke::Print(cell.symbol(), cell.marks()));
 }
 
-/// Whether the cursor is known to be at a place.
-fn is_at(cursor: Option<usize>, at: usize) -> bool
-    ensures { IsTrue result ↔ (cursor ≡ Some at) }
-{
-    match cursor {
-        None => false,
-        Some(known) => known == at,
-    }
-}
-
-/// Where the cursor is after a character.
+/// The place of the cursor after a character, or none if that is a row's last.
 fn right_of(at: usize, width: u16) -> Option<usize>
     requires fits { at ≤ 2 ^ 32 }
     requires width { 0 < width }
@@ -112,46 +109,53 @@ fn copy_second(before: &mut [Cell], after: &[Cell], at: usize) -> usize
 }
 
 /// Begins a frame.
-fn put_first<W: io::Write>(writer: &mut W, pen: &mut Pen, is_known: bool)
-    ensures { PutsStrokes (first_strokes is_known) (W.contents writer.old) pen.old (W.contents writer.new) pen.new }
+fn put_first<W: io::Write>(writer: &mut W, pen: &mut Pen, start: Start)
+    ensures { PutsStrokes (first_strokes start) (W.contents writer.old) pen.old (W.contents writer.new) pen.new }
 {
-    put(writer, pen, Stroke::Begin);
-    if !is_known {
-        put(writer, pen, Stroke::Style(ContentStyle::new()));
-        put(writer, pen, Stroke::Erase);
+    match start {
+        Start::Nothing => {
+            put(writer, pen, Stroke::Begin);
+            put(writer, pen, Stroke::Style(ContentStyle::new()));
+            put(writer, pen, Stroke::Erase);
+        }
+        Start::Cells => put(writer, pen, Stroke::Begin),
+        Start::All(_) => {}
     }
 }
 
-/// Begins a frame, paints each cell that has to be printed, and no other, and turns the cells before into the ones after.
+/// Begins a frame, paints each cell that has to be printed, and no other but few between them in place of a move, and turns the cells before into
+/// the ones after. Returns what is known then: the cursor's place and the style that is set.
 fn scan<W: io::Write>(
     writer: &mut W,
     pen: &mut Pen,
-    is_known: bool,
+    start: Start,
     size: (u16, u16),
     before: &mut [Cell],
     after: &[Cell],
-)
-    requires before { IsSized is_known size.0 size.1 before.old }
+) -> (Option<usize>, Option<PackedStyle>)
+    requires before { IsSized start size.0 size.1 before.old }
     requires length { length after.now ≡ size.0 * size.1 }
     requires fits { All IsPlaced after.now }
     requires before_paired { ArePaired false before.old }
     requires after_paired { ArePaired false after.now }
     requires rows { StayInRows size.0 after.now }
-    ensures strokes { (strokes : List Stroke) × Visited is_known size.0 size.1 before.old after.now strokes × AreFitting is_known strokes
+    ensures strokes { (strokes : List Stroke) × Visited start size.0 size.1 before.old after.now result.0 result.1 strokes × AreFitting start strokes
         × PutsStrokes strokes (W.contents writer.old) pen.old (W.contents writer.new) pen.new }
     ensures shown { before.new ≡ after.now }
 {
     let (width, height) = size;
-    let mut cursor: Option<usize> = None;
-    let mut style: Option<PackedStyle> = None;
-    put_first(writer, pen, is_known);
+    let mut cursor = start.cursor();
+    let mut style = start.style();
+    put_first(writer, pen, start);
     let mut at = next_difference(before, after, 0);
     while at < after.len() {
         let cell = &after[at];
         before[at] = *cell;
         if !is_covered(cell) {
             let place = place_of(at, width, height);
-            let there = is_at(cursor, at);
+            // A copy is lent, so that `style` itself may stay in registers.
+            let lent = style;
+            let there = approach(writer, pen, after, cursor, &lent, at, place.0);
             let setting = setting_of(style, &cell.packed_style());
             paint(writer, pen, there, &setting, place, cell);
             style = Some(cell.packed_style());
@@ -160,6 +164,7 @@ fn scan<W: io::Write>(
         }
         at = next_difference(before, after, at + 1);
     }
+    (cursor, style)
 }
 
 /// Puts the cursor at the place that was asked for.
@@ -195,22 +200,86 @@ pub(crate) fn write_frame<W: io::Write>(
     after: &[Cell],
     cursor: Option<(u16, u16)>,
 ) -> Result<(), CommandFault>
-    requires before { IsSized is_known size.0 size.1 before.old }
+    requires before { IsSized (start_by is_known) size.0 size.1 before.old }
     requires length { length after.now ≡ size.0 * size.1 }
     requires fits { All IsPlaced after.now }
     requires before_paired { ArePaired false before.old }
     requires after_paired { ArePaired false after.now }
     requires rows { StayInRows size.0 after.now }
     requires cursor { IfSome cursor (λ place. (place.0 < size.0) × (place.1 < size.1)) }
-    ensures ok { OnOk result ((strokes : List Stroke) × Planned is_known size.0 size.1 before.old after.now cursor strokes × AreFitting is_known strokes
+    ensures ok { OnOk result ((strokes : List Stroke) × Planned is_known size.0 size.1 before.old after.now cursor strokes × AreFitting (start_by is_known) strokes
         × Appends (W.contents writer.old) (W.contents writer.new) (text_of (written_of in_row colors strokes))) }
-    ensures err { OnErr result ((strokes : List Stroke) × Planned is_known size.0 size.1 before.old after.now cursor strokes × AreFitting is_known strokes
+    ensures err { OnErr result ((strokes : List Stroke) × Planned is_known size.0 size.1 before.old after.now cursor strokes × AreFitting (start_by is_known) strokes
         × AppendsFront (W.contents writer.old) (W.contents writer.new) (text_of (written_of in_row colors strokes))) }
     ensures shown { before.new ≡ after.now }
 {
     let mut pen = Pen::new(colors, in_row);
-    scan(writer, &mut pen, is_known, size, before, after);
+    scan(writer, &mut pen, Start::of(is_known), size, before, after);
     put_last(writer, &mut pen, cursor);
+    match finish(writer, &mut pen) {
+        Ok(()) => Ok(()),
+        Err(fault) => Err(fault),
+    }
+}
+
+/// Ends a frame of which all was known when it began: the cursor goes to a column of the only row and the plain style is set, unless that is so.
+/// In place of a move a few cells may be printed again, as in `scan`.
+fn put_stop<W: io::Write>(
+    writer: &mut W,
+    pen: &mut Pen,
+    cursor: Option<usize>,
+    style: Option<PackedStyle>,
+    after: &[Cell],
+    column: u16,
+)
+    requires { column ≤ length after.now }
+    ensures { (cells : List CellValue) × (there : Bool) × (how : Setting) × Approaches after.now cursor style column column cells there
+        × Sets style no_style how × HasByteColors how
+        × PutsStrokes (again_strokes cells ++ stop_strokes there how column) (W.contents writer.old) pen.old (W.contents writer.new) pen.new }
+{
+    let plain = PackedStyle::new(&ContentStyle::new());
+    let setting = setting_of(style, &plain);
+    let there = approach(
+        writer,
+        pen,
+        after,
+        cursor,
+        &style,
+        usize::from(column),
+        column,
+    );
+    put_move(writer, pen, there, (column, 0));
+    put_style(writer, pen, &setting);
+}
+
+/// Writes the strokes that turn the cells of a row into others, if the cursor is still shown in the column in which the last frame left it, and
+/// the plain style is set.
+pub(crate) fn write_next<W: io::Write>(
+    writer: &mut W,
+    colors: ColorOutput,
+    width: u16,
+    before: &mut [Cell],
+    after: &[Cell],
+    from: u16,
+    column: u16,
+) -> Result<(), CommandFault>
+    requires before { length before.old ≡ width * 1 }
+    requires length { length after.now ≡ width * 1 }
+    requires fits { All IsPlaced after.now }
+    requires before_paired { ArePaired false before.old }
+    requires after_paired { ArePaired false after.now }
+    requires rows { StayInRows width after.now }
+    requires column { column < width }
+    ensures ok { OnOk result ((strokes : List Stroke) × PlannedNext width before.old after.now from column strokes × AreFitting (start.All from) strokes
+        × Appends (W.contents writer.old) (W.contents writer.new) (text_of (written_of true colors strokes))) }
+    ensures err { OnErr result ((strokes : List Stroke) × PlannedNext width before.old after.now from column strokes × AreFitting (start.All from) strokes
+        × AppendsFront (W.contents writer.old) (W.contents writer.new) (text_of (written_of true colors strokes))) }
+    ensures shown { before.new ≡ after.now }
+{
+    let mut pen = Pen::new(colors, true);
+    let start = Start::All(usize::from(from));
+    let (cursor, style) = scan(writer, &mut pen, start, (width, 1), before, after);
+    put_stop(writer, &mut pen, cursor, style, after, column);
     match finish(writer, &mut pen) {
         Ok(()) => Ok(()),
         Err(fault) => Err(fault),

@@ -1,19 +1,21 @@
 //! Screens: what the terminal shows, and how it is made to show a buffer.
-ghost use Rattle.std.specs.Prelude.{◌≡◌, ◌*◌, ◌<◌, ◌≤◌, ◌↔◌, OnOk, OnErr, IsOk, IfOk, IfErr, IfSome, IsTrue, List, None, Some, if◌then◌else◌, false, length, replicate, vec_capacity};
+ghost use Rattle.std.specs.Prelude.{◌≡◌, ◌*◌, ◌<◌, ◌≤◌, ◌↔◌, OnOk, OnErr, IsOk, IfOk, IfErr, IfSome, IsTrue, List, None, Some, if◌then◌else◌, false, true, length, replicate, vec_capacity};
 ghost use Rattle.std.specs.Option.{option_map};
 ghost use Rattle.crossterm.specs.Functions.{AppendsReading};
 ghost use Rattle.crossterm_command.specs.Tokens.{Token};
 ghost use Rattle.screen.specs.Cells.{ArePaired, blank};
-ghost use Rattle.screen.specs.Drawings.{CursorFits, IsFrame, IsSameSize, NotDrawn, forgotten, knows_cells, with_drawn};
+ghost use Rattle.screen.specs.Drawings.{CursorFits, IsFrame, IsSameSize, NotDrawn, cells_before, forgotten, knows_cells, with_drawn};
 ghost use Rattle.screen.specs.declared.strokes.Stroke.{Stroke};
-ghost use Rattle.screen.specs.inside.Scans.{IsPairedIf, NotWritten, is_known};
+ghost use Rattle.screen.specs.Screens.{View};
+ghost use Rattle.screen.specs.declared.starts.Start.TheVariants as start;
+ghost use Rattle.screen.specs.inside.Scans.{IsPairedIf, NextNotWritten, NotWritten, PlannedNext, is_known, start_by};
 ghost use Rattle.screen.specs.inside.Strokes.{AreFitting, tokens_of, written_of};
 
 use crate::buffers::{Buffer, count_of};
 use crate::cells::Cell;
 use crate::faults::DrawFault;
 use crate::overwriting::fill;
-use crate::planning::write_frame;
+use crate::planning::{write_frame, write_next};
 use crossterm_command::ColorOutput;
 use std::alloc::{AllocError, Allocator, Global};
 use std::io::Write;
@@ -207,7 +209,7 @@ impl<A: Allocator> Screen<A> {
         cursor: Option<(u16, u16)>,
     ) -> Result<(), DrawFault>
         ensures frame { OnOk result ((strokes : List Stroke) × AppendsReading (W.contents writer.old) (W.contents writer.new) (written_of in_row colors strokes)
-            × AreFitting (knows_cells self.old.drawn colors) strokes × IsFrame self.old colors buffer.now cursor (tokens_of colors strokes)) }
+            × AreFitting (start_by (knows_cells self.old.drawn colors)) strokes × IsFrame self.old colors buffer.now cursor (tokens_of colors strokes)) }
         ensures accepted { OnOk result (IsSameSize self.old buffer.now × CursorFits self.old cursor) }
         ensures drawn { OnOk result (self.new ≡ with_drawn self.old colors buffer.now.cells) }
         ensures err { IfErr result (λ fault. NotWritten in_row fault self.old self.new colors buffer.now cursor
@@ -239,5 +241,46 @@ impl<A: Allocator> Screen<A> {
             }
             Err(fault) => Err(DrawFault::Command(fault)),
         }
+    }
+
+    /// Whether it is known what the terminal shows, in colours that are written as now.
+    pub(crate) fn knows(&self, colors: ColorOutput) -> bool
+        ensures { result ≡ knows_cells self.now.drawn colors }
+    {
+        is_known(self.drawn, colors)
+    }
+
+    /// The same in the cursor's row, if the cursor is still shown in the column in which the last frame left it, and the plain style is set.
+    pub(crate) fn draw_next<W: Write, B: Allocator>(
+        &mut self,
+        writer: &mut W,
+        colors: ColorOutput,
+        buffer: &Buffer<B>,
+        from: u16,
+        column: u16,
+    ) -> Result<(), DrawFault>
+        requires known { knows_cells self.old.drawn colors ≡ true }
+        requires row { self.old.height ≡ 1 }
+        ensures frame { OnOk result ((strokes : List Stroke) × AppendsReading (W.contents writer.old) (W.contents writer.new) (written_of true colors strokes)
+            × AreFitting (start.All from) strokes × PlannedNext self.old.width (cells_before self.old colors) buffer.now.cells from column strokes) }
+        ensures accepted { OnOk result (IsSameSize self.old buffer.now × CursorFits self.old (Some (column, 0))) }
+        ensures drawn { OnOk result (self.new ≡ with_drawn self.old colors buffer.now.cells) }
+        ensures err { IfErr result (λ fault. NextNotWritten fault self.old self.new colors buffer.now from column
+            (W.contents writer.old) (W.contents writer.new)) }
+    {
+        if buffer.width() != self.width || buffer.height() != 1 {
+            return Err(DrawFault::Size);
+        }
+        if column >= self.width {
+            return Err(DrawFault::Cursor);
+        }
+        self.drawn = None;
+        let width = self.width;
+        let shown = &mut self.shown;
+        if let Err(fault) = write_next(writer, colors, width, shown, buffer.cells(), from, column) {
+            return Err(DrawFault::Command(fault));
+        }
+        self.drawn = Some(colors);
+        Ok(())
     }
 }

@@ -2,7 +2,8 @@
 ghost use Rattle.std.specs.Prelude.{◌≡◌, ◌*◌, ◌≤◌, OnOk, OnErr, IsOk, IfOk, IfErr, List, None};
 ghost use Rattle.crossterm.specs.Functions.{AppendsReading};
 ghost use Rattle.crossterm_command.specs.Tokens.{Token};
-ghost use Rattle.screen.specs.Strips.{ColumnFits, IsOneRow, IsRowFrame, RowNotDrawn, in_first_row, with_row, without_row};
+ghost use Rattle.screen.specs.inside.Leaving.{left_by};
+ghost use Rattle.screen.specs.Strips.{ColumnFits, IsNextFrame, IsOneRow, IsRowFrame, RowNotDrawn, in_first_row, with_row, without_cursor, without_row};
 
 use crate::buffers::Buffer;
 use crate::faults::DrawFault;
@@ -27,17 +28,19 @@ use std::marker::Model;
 #[derive(Drop)]
 pub struct Strip<A: Allocator = Global> {
     screen: Screen<A>,
+    // The column in which the last frame left the cursor, if it did, and if nothing else is known to have been written.
+    left: Option<u16>,
 }
 
 impl<A: Allocator> Model for Strip<A> {
-    ghost use Rattle.std.specs.Prelude.{◌≡◌};
+    ghost use Rattle.std.specs.Prelude.{◌≡◌, ◌<◌, IfSome};
     ghost use Rattle.screen.specs.Strips.{StripView};
 
     ghost Value = { StripView };
 
-    ghost view = { λ s. record { width = s.screen.width; drawn = s.screen.drawn; room = s.screen.room } };
+    ghost view = { λ s. record { width = s.screen.width; drawn = s.screen.drawn; left = s.left; room = s.screen.room } };
 
-    ghost invariant = { λ s. s.screen.height ≡ 1 };
+    ghost invariant = { λ s. (s.screen.height ≡ 1) × IfSome s.left (λ column. column < s.screen.width) };
 }
 
 /// The place of a column in the only row.
@@ -47,6 +50,17 @@ fn in_first_row(cursor: Option<u16>) -> Option<(u16, u16)>
     match cursor {
         None => None,
         Some(column) => Some((column, 0)),
+    }
+}
+
+/// The column in which a frame leaves the cursor: the one that was asked for, the old one if nothing was written, and none if writing failed.
+fn left_by(drawn: &Result<(), DrawFault>, left: Option<u16>, cursor: Option<u16>) -> Option<u16>
+    ensures { result ≡ left_by drawn.now left cursor }
+{
+    match drawn {
+        Ok(()) => cursor,
+        Err(DrawFault::Command(_)) => None,
+        Err(_) => left,
     }
 }
 
@@ -61,11 +75,11 @@ impl<A: Allocator> Strip<A> {
     ///
     /// `AllocError` if memory was refused.
     pub fn new(alloc: A, width: u16) -> Result<Strip<A>, AllocError>
-        ensures new { IfOk result (λ strip. strip ≡ record { width = width; drawn = None; room = strip.room }) }
+        ensures new { IfOk result (λ strip. strip ≡ record { width = width; drawn = None; left = None; room = strip.room }) }
         ensures room { IfOk result (λ strip. width ≤ strip.room) }
     {
         let screen = Screen::new(alloc, width, 1)?;
-        Ok(Strip { screen })
+        Ok(Strip { screen, left: None })
     }
 
     /// How many columns there are.
@@ -88,7 +102,19 @@ impl<A: Allocator> Strip<A> {
     pub fn forget(&mut self)
         ensures { self.new ≡ without_row self.old }
     {
+        self.left = None;
         self.screen.forget();
+    }
+
+    /// Forgets the cursor's column and that the plain style is set, as after another text was written. What the row shows is still known.
+    ///
+    /// ```
+    /// strip.forget_cursor();
+    /// ```
+    pub fn forget_cursor(&mut self)
+        ensures { self.new ≡ without_cursor self.old }
+    {
+        self.left = None;
     }
 
     /// Takes another width, after which nothing is known of the row. No memory is given back, so no width is refused that it had before.
@@ -101,13 +127,15 @@ impl<A: Allocator> Strip<A> {
     ///
     /// `AllocError` if memory was refused for more cells than there is memory for. Then nothing has changed.
     pub fn resize(&mut self, width: u16) -> Result<(), AllocError>
-        ensures ok { OnOk result (self.new ≡ record { width = width; drawn = None; room = self.new.room }) }
+        ensures ok { OnOk result (self.new ≡ record { width = width; drawn = None; left = None; room = self.new.room }) }
         ensures err { OnErr result (self.new ≡ record self.old { room = self.new.room }) }
         ensures fits { width ≤ self.old.room → IsOk result }
         ensures holds { OnOk result (width ≤ self.new.room) }
         ensures room { self.old.room ≤ self.new.room }
     {
-        self.screen.resize(width, 1)
+        self.screen.resize(width, 1)?;
+        self.left = None;
+        Ok(())
     }
 
     /// Writes what makes the cursor's row show the buffer, with the cursor in a column from 0, or hidden. Behind the strip the row is blank. The
@@ -133,11 +161,54 @@ impl<A: Allocator> Strip<A> {
         ensures frame { OnOk result ((ts : List Token) × AppendsReading (W.contents writer.old) (W.contents writer.new) ts
             × IsRowFrame self.old colors buffer.now cursor ts) }
         ensures accepted { OnOk result (IsOneRow self.old buffer.now × ColumnFits self.old cursor) }
-        ensures drawn { OnOk result (self.new ≡ with_row self.old colors buffer.now.cells) }
-        ensures err { IfErr result (λ fault. RowNotDrawn fault self.old self.new colors buffer.now cursor
+        ensures drawn { OnOk result (self.new ≡ with_row self.old colors buffer.now.cells cursor) }
+        ensures err { IfErr result (λ fault. RowNotDrawn fault self.old self.new buffer.now cursor (IsRowFrame self.old colors buffer.now cursor)
             (W.contents writer.old) (W.contents writer.new)) }
     {
         let place = in_first_row(cursor);
-        self.screen.draw_by(writer, true, colors, buffer, place)
+        let drawn = self.screen.draw_by(writer, true, colors, buffer, place);
+        self.left = left_by(&drawn, self.left, cursor);
+        drawn
+    }
+
+    /// The same for a program that draws alone: nothing else was written since the last frame, so the cursor is still shown in the column in
+    /// which that left it, and the plain style is set. Then what didn't change costs nothing: a letter or a blank that is typed at a line's end is
+    /// one byte, a cursor that goes to another column is at most one CHA, and a frame without a change is empty. A bell may have been written: it
+    /// changes nothing of the row.
+    ///
+    /// It is a frame as of `draw` if nothing is known of the row, or if the last frame hid the cursor, or this one hides it.
+    ///
+    /// # Errors
+    ///
+    /// Those of `draw`.
+    ///
+    /// ```
+    /// strip.draw_next(&mut tty.out, ColorOutput::Enabled, &buffer, Some(column))?;
+    /// tty.out.flush()?;
+    /// ```
+    pub fn draw_next<W: Write, B: Allocator>(
+        &mut self,
+        writer: &mut W,
+        colors: ColorOutput,
+        buffer: &Buffer<B>,
+        cursor: Option<u16>,
+    ) -> Result<(), DrawFault>
+        ensures frame { OnOk result ((ts : List Token) × AppendsReading (W.contents writer.old) (W.contents writer.new) ts
+            × IsNextFrame self.old colors buffer.now cursor ts) }
+        ensures accepted { OnOk result (IsOneRow self.old buffer.now × ColumnFits self.old cursor) }
+        ensures drawn { OnOk result (self.new ≡ with_row self.old colors buffer.now.cells cursor) }
+        ensures err { IfErr result (λ fault. RowNotDrawn fault self.old self.new buffer.now cursor (IsNextFrame self.old colors buffer.now cursor)
+            (W.contents writer.old) (W.contents writer.new)) }
+    {
+        if self.screen.knows(colors) {
+            if let Some(from) = self.left {
+                if let Some(column) = cursor {
+                    let drawn = self.screen.draw_next(writer, colors, buffer, from, column);
+                    self.left = left_by(&drawn, self.left, cursor);
+                    return drawn;
+                }
+            }
+        }
+        self.draw(writer, colors, buffer, cursor)
     }
 }

@@ -1,5 +1,5 @@
 //! Texts in cells.
-ghost use Rattle.std.specs.Prelude.{◌≡◌, ◌+◌, ◌≤◌, ◌∷◌, ℕ, List, IfSome, None, chars, false, length};
+ghost use Rattle.std.specs.Prelude.{◌≡◌, ◌+◌, ◌<◌, ◌≤◌, ◌∷◌, ◌++◌, ℕ, List, IfSome, None, chars, drop, false, get_or, length, map, take};
 ghost use Rattle.std.specs.List.{AllByRecursion};
 ghost use Rattle.std.specs.Option.{option_map};
 ghost use Rattle.screen.specs.Cells.{FitsCell, IsPrinted};
@@ -8,11 +8,12 @@ ghost use Rattle.screen.specs.Parts.{text_parts};
 ghost use Rattle.screen.specs.Texts.{cells_of, columns, part_fault, replacement_fault, text_columns, text_fault, within, without_marks};
 ghost use Rattle.screen.specs.inside.Edits.{IsEditing, edit, edited, fault_unless_mark};
 ghost use Rattle.screen.specs.inside.FirstParts.{IsPart};
+ghost use Rattle.screen.specs.inside.Ascii.{BeginsBare, IsPrintableAscii, bare_cell};
 
 use crate::cells::{Cell, symbol_fault, takes_two};
 use crate::faults::CellFault;
 use crate::marks::{Marks, takes_none};
-use crate::overwriting::{columns, overwrite};
+use crate::overwriting::{begin_at, columns, end_before, overwrite};
 use crate::packed::PackedStyle;
 use crate::parts::{Part, first_part};
 use crossterm_style::ContentStyle;
@@ -144,6 +145,63 @@ fn edit(part: &Part, how: Editing) -> Option<(char, Marks)>
     }
 }
 
+/// How many printable characters of ASCII some bytes begin with, so many at most.
+fn printable_front(bytes: &[u8], most: usize) -> usize
+    ensures few { result ≤ most }
+    ensures inside { result ≤ length bytes.now }
+    ensures printable { (k : ℕ) → k < result → IsPrintableAscii (get_or bytes.now k 0) }
+{
+    let mut count = 0;
+    while count < most && count < bytes.len() {
+        if bytes[count] < 32 || bytes[count] > 126 {
+            break;
+        }
+        count += 1;
+    }
+    count
+}
+
+/// How many printable characters of ASCII a text begins with, so many at most, without the last one if it may have a mark.
+fn bare_ascii(text: &str, most: usize) -> usize
+    ensures bare { BeginsBare text.now result }
+    ensures few { result ≤ most }
+{
+    let bytes = text.as_bytes();
+    let count = printable_front(bytes, most);
+    // No character of one byte is a mark.
+    if count > 0 && count < bytes.len() && bytes[count] >= 128 {
+        return count - 1;
+    }
+    count
+}
+
+/// Sets cells, from a place on, to characters of one byte.
+fn set_ascii(cells: &mut [Cell], at: usize, letters: &[u8], style: PackedStyle)
+    requires { at + length letters.now ≤ length cells.old }
+    ensures { cells.new ≡ take at cells.old ++ (map (bare_cell style) letters.now ++ drop (at + length letters.now) cells.old) }
+{
+    for k in 0..letters.len() {
+        cells[at + k] = Cell::of(letters[k] as char, Marks::none(), style);
+    }
+}
+
+/// Overwrites so many cells at most, from a place on, by printable characters of ASCII that a text begins with, and returns how many.
+fn write_ascii(cells: &mut [Cell], at: usize, room: usize, text: &str, style: PackedStyle) -> usize
+    requires room { at + room ≤ length cells.old }
+    ensures bare { BeginsBare text.now result }
+    ensures few { result ≤ room }
+    ensures cells { cells.new ≡ overwritten cells.old at (map (bare_cell style) (take result text.now)) }
+{
+    let count = bare_ascii(text, room);
+    if count == 0 {
+        return 0;
+    }
+    end_before(cells, at);
+    begin_at(cells, at + count);
+    set_ascii(cells, at, &text.as_bytes()[0..count], style);
+    count
+}
+
 /// Overwrites so many cells at most, from a place on, by those of a text, and returns how many.
 pub(crate) fn write_text(
     cells: &mut [Cell],
@@ -161,8 +219,8 @@ pub(crate) fn write_text(
     ensures held { AllByRecursion FitsCell (within room (edited how (text_parts (chars text.now)))) }
 {
     let style = PackedStyle::new(style);
-    let mut count = 0;
-    let mut rest = text;
+    let mut count = write_ascii(cells, at, room, text, style);
+    let mut rest = &text[count..text.len()];
     while let Some((part, back)) = first_part(rest) {
         rest = back;
         let (symbol, marks) = match edit(&part, how) {

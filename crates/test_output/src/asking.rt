@@ -70,7 +70,7 @@ const EMPTY: &str = "\x1b[?2026h\x1b[0m\x1b[1G\x1b[K\x1b[0m\x1b[1G\x1b[?25h\x1b[
 const NEXT: &str = "\r\n";
 
 const ROWS: &[Row] = &[
-    // The first frame of a line erases the row, and each has one synchronized update. What has changed is printed, the cursor gets its column.
+    // The first frame of a line erases the row, in one synchronized update. The next one is the letter that was typed.
     Row {
         typed: b"a\r",
         prompt: "> ",
@@ -78,7 +78,7 @@ const ROWS: &[Row] = &[
         comes: Comes::Line("a"),
         written: &[
             "\x1b[?2026h\x1b[0m\x1b[1G\x1b[K\x1b[1G\x1b[0m>\x1b[0m\x1b[3G\x1b[?25h\x1b[?2026l",
-            "\x1b[?2026h\x1b[3G\x1b[0ma\x1b[0m\x1b[4G\x1b[?25h\x1b[?2026l",
+            "a",
             NEXT,
         ],
     },
@@ -88,12 +88,7 @@ const ROWS: &[Row] = &[
         prompt: "",
         most: 9,
         comes: Comes::Line("a"),
-        written: &[
-            EMPTY,
-            "\x1b[?2026h\x1b[1G\x1b[0ma\x1b[0m\x1b[2G\x1b[?25h\x1b[?2026l",
-            "\x1b[?2026h\x1b[0m\x1b[1G\x1b[?25h\x1b[?2026l",
-            NEXT,
-        ],
+        written: &[EMPTY, "a", "\x1b[1G", NEXT],
     },
     // Ctrl-L clears the window, and all is drawn anew at its top.
     Row {
@@ -103,10 +98,10 @@ const ROWS: &[Row] = &[
         comes: Comes::Line("ab"),
         written: &[
             EMPTY,
-            "\x1b[?2026h\x1b[1G\x1b[0ma\x1b[0m\x1b[2G\x1b[?25h\x1b[?2026l",
+            "a",
             "\x1b[2J\x1b[1;1H",
             "\x1b[?2026h\x1b[0m\x1b[1G\x1b[K\x1b[1G\x1b[0ma\x1b[0m\x1b[2G\x1b[?25h\x1b[?2026l",
-            "\x1b[?2026h\x1b[2G\x1b[0mb\x1b[0m\x1b[3G\x1b[?25h\x1b[?2026l",
+            "b",
             NEXT,
         ],
     },
@@ -116,12 +111,7 @@ const ROWS: &[Row] = &[
         prompt: "",
         most: 1,
         comes: Comes::Line("a"),
-        written: &[
-            EMPTY,
-            "\x1b[?2026h\x1b[1G\x1b[0ma\x1b[0m\x1b[2G\x1b[?25h\x1b[?2026l",
-            "\x07",
-            NEXT,
-        ],
+        written: &[EMPTY, "a", "\x07", NEXT],
     },
     Row {
         typed: b"\x1b[200~xyz\x1b[201~\r",
@@ -311,8 +301,7 @@ fn a_device_of_modes_that_refuses_is_answered(rt: HostRuntime) -> io::Result<()>
 }
 
 /// What is written up to an accepted line: three drawings.
-const DRAWN: &str =
-    "\x1b[?2026h\x1b[0m\x1b[1G\x1b[K\x1b[0m\x1b[1G\x1b[?25h\x1b[?2026l\x1b[?2026h\x1b[1G\x1b[0ma\x1b[0m\x1b[2G\x1b[?25h\x1b[?2026l\x1b[?2026h\x1b[2G\x1b[0mb\x1b[0m\x1b[3G\x1b[?25h\x1b[?2026l";
+const DRAWN: &str = "\x1b[?2026h\x1b[0m\x1b[1G\x1b[K\x1b[0m\x1b[1G\x1b[?25h\x1b[?2026lab";
 
 #[test]
 fn no_line_is_lost_by_a_writer_that_fails(rt: HostRuntime) -> io::Result<()> {

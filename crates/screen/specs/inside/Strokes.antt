@@ -14,6 +14,8 @@ use Rattle.crossterm.specs.Sequences.{by, clear, move_to}
 use Rattle.crossterm.specs.declared.terminal.ClearType.TheVariants.{All, UntilNewLine}
 use Rattle.screen.specs.declared.settings.Setting.{Setting}
 use Rattle.screen.specs.declared.settings.Setting.TheVariants as setting
+use Rattle.screen.specs.declared.starts.Start.{Start}
+use Rattle.screen.specs.declared.starts.Start.TheVariants as start
 use Rattle.screen.specs.declared.strokes.RowStroke.{RowStroke}
 use Rattle.screen.specs.declared.strokes.RowStroke.TheVariants as row
 use Rattle.screen.specs.declared.strokes.Stroke.{Stroke}
@@ -119,11 +121,18 @@ style_strokes (setting.Whole s) = stroke.Style s ∷ []
 abbrev pub cell_strokes : Bool → Setting → ℕ → ℕ → Cell → List Stroke
 cell_strokes there how column row c = move_strokes there column row ++ (style_strokes how ++ (stroke.Print c.symbol c.marks ∷ []))
 
+-- The strokes that print cells again.
+abbrev pub again_strokes : List Cell → List Stroke
+again_strokes cells = map (λ c. stroke.Print c.symbol c.marks) cells
+
 -- ---- the beginning and the end of a frame
 
--- The strokes that begin a frame. If the cells aren't known, they are erased in the empty style.
-abbrev pub first_strokes : Bool → List Stroke
-first_strokes known = stroke.Begin ∷ (if known then [] else (stroke.Style no_style ∷ stroke.Erase ∷ []))
+-- The strokes that begin a frame. If the cells aren't known, they are erased in the empty style. If all is known, there
+-- are none.
+abbrev pub first_strokes : Start → List Stroke
+first_strokes start.Nothing = stroke.Begin ∷ stroke.Style no_style ∷ stroke.Erase ∷ []
+first_strokes start.Cells = stroke.Begin ∷ []
+first_strokes (start.All at) = []
 
 -- The strokes that hide the cursor, or move it to a place and show it.
 abbrev pub cursor_strokes : Option (ℕ × ℕ) → List Stroke
@@ -134,6 +143,11 @@ cursor_strokes (Some place) = stroke.Move place.0 place.1 ∷ stroke.Show ∷ []
 abbrev pub last_strokes : Option (ℕ × ℕ) → List Stroke
 last_strokes cursor = stroke.Style no_style ∷ (cursor_strokes cursor ++ (stroke.End ∷ []))
 
+-- The strokes that end a frame of which all was known: a move to the cursor's column and the empty style, if they are
+-- needed.
+abbrev pub stop_strokes : Bool → Setting → ℕ → List Stroke
+stop_strokes there how column = move_strokes there column 0 ++ style_strokes how
+
 -- The strokes begin as a frame does, and the others fit behind them.
-abbrev pub AreFitting : Bool → List Stroke → Type 0
-AreFitting known strokes = (later : List Stroke) × (strokes ≡ first_strokes known ++ later) × AllByRecursion IsFitting later
+abbrev pub AreFitting : Start → List Stroke → Type 0
+AreFitting s strokes = (later : List Stroke) × (strokes ≡ first_strokes s ++ later) × AllByRecursion IsFitting later

@@ -11,12 +11,7 @@ const ROWS: &[Row] = &[
         prompt: "",
         most: 9,
         comes: Comes::Line("e\u{301}"),
-        written: &[
-            EMPTY,
-            "\x1b[?2026h\x1b[1G\x1b[0me\x1b[0m\x1b[2G\x1b[?25h\x1b[?2026l",
-            "\x1b[?2026h\x1b[1G\x1b[0me\u{301}\x1b[0m\x1b[2G\x1b[?25h\x1b[?2026l",
-            NEXT,
-        ],
+        written: &[EMPTY, "e", "\x1b[1Ge\u{301}", NEXT],
     },
     // A family of three is shown one by one, since terminals disagree on what joins them. The cursor is behind it, and then before it.
     Row {
@@ -26,8 +21,8 @@ const ROWS: &[Row] = &[
         comes: Comes::Line("\u{1f468}\u{200d}\u{1f469}\u{200d}\u{1f467}"),
         written: &[
             EMPTY,
-            "\x1b[?2026h\x1b[1G\x1b[0m\u{1f468}\u{fffd}\u{1f469}\u{fffd}\u{1f467}\x1b[0m\x1b[9G\x1b[?25h\x1b[?2026l",
-            "\x1b[?2026h\x1b[0m\x1b[1G\x1b[?25h\x1b[?2026l",
+            "\u{1f468}\u{fffd}\u{1f469}\u{fffd}\u{1f467}",
+            "\x1b[1G",
             NEXT,
         ],
     },
@@ -39,10 +34,10 @@ const ROWS: &[Row] = &[
         comes: Comes::Line("a\u{2060}\u{2060}b"),
         written: &[
             EMPTY,
-            "\x1b[?2026h\x1b[1G\x1b[0ma\u{fffd}\u{fffd}b\x1b[0m\x1b[5G\x1b[?25h\x1b[?2026l",
-            "\x1b[?2026h\x1b[0m\x1b[4G\x1b[?25h\x1b[?2026l",
-            "\x1b[?2026h\x1b[0m\x1b[3G\x1b[?25h\x1b[?2026l",
-            "\x1b[?2026h\x1b[0m\x1b[2G\x1b[?25h\x1b[?2026l",
+            "a\u{fffd}\u{fffd}b",
+            "\x1b[4G",
+            "\x1b[3G",
+            "\x1b[2G",
             NEXT,
         ],
     },
@@ -54,10 +49,10 @@ const ROWS: &[Row] = &[
         comes: Comes::Line(""),
         written: &[
             EMPTY,
-            "\x1b[?2026h\x1b[1G\x1b[0m(reverse-i-search)`':\x1b[0m\x1b[23G\x1b[?25h\x1b[?2026l",
-            "\x1b[?2026h\x1b[20G\x1b[0mx':\x1b[0m\x1b[24G\x1b[?25h\x1b[?2026l",
+            "(reverse-i-search)`': ",
+            "\x1b[20Gx': ",
             "\x07",
-            "\x1b[?2026h\x1b[1G\x1b[0m                      \x1b[0m\x1b[1G\x1b[?25h\x1b[?2026l",
+            "\x1b[1G                      \x1b[1G",
             NEXT,
         ],
     },
@@ -67,15 +62,9 @@ const ROWS: &[Row] = &[
         prompt: "",
         most: 9,
         comes: Comes::Line(""),
-        written: &[
-            EMPTY,
-            "\x1b[?2026h\x1b[1G\x1b[0mabc\x1b[0m\x1b[4G\x1b[?25h\x1b[?2026l",
-            "\x1b[?2026h\x1b[3G\x1b[0m \x1b[0m\x1b[3G\x1b[?25h\x1b[?2026l",
-            "\x1b[?2026h\x1b[1G\x1b[0m  \x1b[0m\x1b[1G\x1b[?25h\x1b[?2026l",
-            NEXT,
-        ],
+        written: &[EMPTY, "abc", "\x1b[3G \x1b[3G", "\x1b[1G  \x1b[1G", NEXT],
     },
-    // A key behind 60 characters writes 41 bytes.
+    // A letter behind 60 characters writes one byte.
     Row {
         typed: b"\x1b[200~xxxxxxxxxxxxxxxxxxxxxxxxxxxxxxxxxxxxxxxxxxxxxxxxxxxxxxxxxxxx\x1b[201~y\r",
         prompt: "",
@@ -83,8 +72,8 @@ const ROWS: &[Row] = &[
         comes: Comes::Line("xxxxxxxxxxxxxxxxxxxxxxxxxxxxxxxxxxxxxxxxxxxxxxxxxxxxxxxxxxxxy"),
         written: &[
             EMPTY,
-            "\x1b[?2026h\x1b[1G\x1b[0mxxxxxxxxxxxxxxxxxxxxxxxxxxxxxxxxxxxxxxxxxxxxxxxxxxxxxxxxxxxx\x1b[0m\x1b[61G\x1b[?25h\x1b[?2026l",
-            "\x1b[?2026h\x1b[61G\x1b[0my\x1b[0m\x1b[62G\x1b[?25h\x1b[?2026l",
+            "xxxxxxxxxxxxxxxxxxxxxxxxxxxxxxxxxxxxxxxxxxxxxxxxxxxxxxxxxxxx",
+            "y",
             NEXT,
         ],
     },
@@ -98,8 +87,8 @@ const ROWS: &[Row] = &[
         ),
         written: &[
             EMPTY,
-            "\x1b[?2026h\x1b[1G\x1b[0mxxxxxxxxxxxxxxxxxxxxxxxxxxxxxxxxxxxxxxxxxxxxxxxxxxxxxxxxxxxxxxxxxxxxxxxxxxxxxx\x1b[0m\x1b[79G\x1b[?25h\x1b[?2026l",
-            "\x1b[?2026h\x1b[79G\x1b[0mx\x1b[0m\x1b[1G\x1b[?25h\x1b[?2026l",
+            "xxxxxxxxxxxxxxxxxxxxxxxxxxxxxxxxxxxxxxxxxxxxxxxxxxxxxxxxxxxxxxxxxxxxxxxxxxxxxx",
+            "x\x1b[1G",
             NEXT,
         ],
     },
@@ -113,7 +102,7 @@ const ROWS: &[Row] = &[
         ),
         written: &[
             "\x1b[?2026h\x1b[0m\x1b[1G\x1b[K\x1b[1G\x1b[0mxxxxxxxxxxxxxxxxxxxxxxxxxxxxxxxxxxxxxxxxxxxxxxxxxxxxxxxxxxxxxxxxxxxxxx\x1b[0m\x1b[71G\x1b[?25h\x1b[?2026l",
-            "\x1b[?2026h\x1b[71G\x1b[0m\u{2764}\u{fffd}\u{2764}\u{fffd}\u{2764}\u{fffd}\x1b[0m\x1b[77G\x1b[?25h\x1b[?2026l",
+            "\u{2764}\u{fffd}\u{2764}\u{fffd}\u{2764}\u{fffd}",
             NEXT,
         ],
     },

@@ -37,9 +37,9 @@ const ROWS: &[Row] = &[
         comes: Comes::Line("echo"),
         written: &[
             EMPTY,
-            "\x1b[?2026h\x1b[1G\x1b[0me\x1b[0m\x1b[2mcho\x1b[0m\x1b[2G\x1b[?25h\x1b[?2026l",
-            "\x1b[?2026h\x1b[2G\x1b[0mc\x1b[0m\x1b[3G\x1b[?25h\x1b[?2026l",
-            "\x1b[?2026h\x1b[3G\x1b[0mho\x1b[0m\x1b[2mes\x1b[0m\x1b[5G\x1b[?25h\x1b[?2026l",
+            "e\x1b[0m\x1b[2mcho\x1b[2G\x1b[0m",
+            "c",
+            "ho\x1b[0m\x1b[2mes\x1b[5G\x1b[0m",
             "\x1b[K\r\n",
         ],
     },
@@ -48,26 +48,14 @@ const ROWS: &[Row] = &[
         typed: b"x\t\r",
         most: 9,
         comes: Comes::Line("x"),
-        written: &[
-            EMPTY,
-            "\x1b[?2026h\x1b[1G\x1b[0mx\x1b[0m\x1b[2G\x1b[?25h\x1b[?2026l",
-            "\x1b[?2026h\x1b[0m\x1b[2G\x1b[?25h\x1b[?2026l",
-            NEXT,
-        ],
+        written: &[EMPTY, "x", NEXT],
     },
     // Nor with Control, as kitty reports it, nor as it is let go.
     Row {
         typed: b"ec\x1b[9;5u\x1b[9;1:3u\r",
         most: 9,
         comes: Comes::Line("ec"),
-        written: &[
-            EMPTY,
-            "\x1b[?2026h\x1b[1G\x1b[0me\x1b[0m\x1b[2mcho\x1b[0m\x1b[2G\x1b[?25h\x1b[?2026l",
-            "\x1b[?2026h\x1b[2G\x1b[0mc\x1b[0m\x1b[3G\x1b[?25h\x1b[?2026l",
-            "\x1b[?2026h\x1b[0m\x1b[3G\x1b[?25h\x1b[?2026l",
-            "\x1b[?2026h\x1b[0m\x1b[3G\x1b[?25h\x1b[?2026l",
-            "\x1b[K\r\n",
-        ],
+        written: &[EMPTY, "e\x1b[0m\x1b[2mcho\x1b[2G\x1b[0m", "c", "\x1b[K\r\n"],
     },
     // A rest that has no room rings the bell.
     Row {
@@ -76,8 +64,8 @@ const ROWS: &[Row] = &[
         comes: Comes::Line("ec"),
         written: &[
             EMPTY,
-            "\x1b[?2026h\x1b[1G\x1b[0me\x1b[0m\x1b[2mcho\x1b[0m\x1b[2G\x1b[?25h\x1b[?2026l",
-            "\x1b[?2026h\x1b[2G\x1b[0mc\x1b[0m\x1b[3G\x1b[?25h\x1b[?2026l",
+            "e\x1b[0m\x1b[2mcho\x1b[2G\x1b[0m",
+            "c",
             "\x07",
             "\x1b[K\r\n",
         ],
@@ -89,10 +77,10 @@ const ROWS: &[Row] = &[
         comes: Comes::Line("ec"),
         written: &[
             EMPTY,
-            "\x1b[?2026h\x1b[1G\x1b[0me\x1b[0m\x1b[2mcho\x1b[0m\x1b[2G\x1b[?25h\x1b[?2026l",
-            "\x1b[?2026h\x1b[2G\x1b[0mc\x1b[0m\x1b[3G\x1b[?25h\x1b[?2026l",
-            "\x1b[?2026h\x1b[3G\x1b[0mho\x1b[0m\x1b[2mes\x1b[0m\x1b[5G\x1b[?25h\x1b[?2026l",
-            "\x1b[?2026h\x1b[3G\x1b[0m\x1b[2mho\x1b[0m  \x1b[0m\x1b[3G\x1b[?25h\x1b[?2026l",
+            "e\x1b[0m\x1b[2mcho\x1b[2G\x1b[0m",
+            "c",
+            "ho\x1b[0m\x1b[2mes\x1b[5G\x1b[0m",
+            "\x1b[3G\x1b[0m\x1b[2mho\x1b[0m  \x1b[3G",
             "\x1b[K\r\n",
         ],
     },
@@ -103,11 +91,11 @@ const ROWS: &[Row] = &[
         comes: Comes::Line("echoo"),
         written: &[
             EMPTY,
-            "\x1b[?2026h\x1b[1G\x1b[0mo\x1b[0m\x1b[2G\x1b[?25h\x1b[?2026l",
-            "\x1b[?2026h\x1b[0m\x1b[1G\x1b[?25h\x1b[?2026l",
-            "\x1b[?2026h\x1b[1G\x1b[0meo\x1b[0m\x1b[2G\x1b[?25h\x1b[?2026l",
-            "\x1b[?2026h\x1b[2G\x1b[0mco\x1b[0m\x1b[3G\x1b[?25h\x1b[?2026l",
-            "\x1b[?2026h\x1b[3G\x1b[0mhoo\x1b[0m\x1b[5G\x1b[?25h\x1b[?2026l",
+            "o",
+            "\x1b[1G",
+            "eo\x1b[2G",
+            "co\x1b[3G",
+            "hoo\x1b[5G",
             NEXT,
         ],
     },
@@ -118,7 +106,7 @@ const ROWS: &[Row] = &[
         comes: Comes::Interrupted,
         written: &[
             EMPTY,
-            "\x1b[?2026h\x1b[1G\x1b[0m\u{6f22}\x1b[0m\x1b[2m\u{5b57}\x1b[0m\x1b[3G\x1b[?25h\x1b[?2026l",
+            "\u{6f22}\x1b[0m\x1b[2m\u{5b57}\x1b[3G\x1b[0m",
             "\x1b[K\r\n",
         ],
     },
@@ -126,23 +114,14 @@ const ROWS: &[Row] = &[
         typed: b"n\r",
         most: 9,
         comes: Comes::Line("n"),
-        written: &[
-            EMPTY,
-            "\x1b[?2026h\x1b[1G\x1b[0mn\x1b[0m\x1b[2G\x1b[?25h\x1b[?2026l",
-            NEXT,
-        ],
+        written: &[EMPTY, "n", NEXT],
     },
     // A control character is neither shown nor written.
     Row {
         typed: b"c\t\r",
         most: 9,
         comes: Comes::Line("c[2J"),
-        written: &[
-            EMPTY,
-            "\x1b[?2026h\x1b[1G\x1b[0mc\x1b[0m\x1b[2G\x1b[?25h\x1b[?2026l",
-            "\x1b[?2026h\x1b[2G\x1b[0m[2J\x1b[0m\x1b[5G\x1b[?25h\x1b[?2026l",
-            NEXT,
-        ],
+        written: &[EMPTY, "c", "[2J", NEXT],
     },
 ];
 

@@ -39,7 +39,7 @@ const PASTED: &[u8] = b"\x1b[200~xxxxxxxxxxxxxxxxxxxxxxxxxxxxxxxxxxxxxxxxxxxxxxx
 
 /// The empty line, and the whole text.
 const DRAWN: &[u8] =
-    b"\x1b[?2026h\x1b[0m\x1b[1G\x1b[K\x1b[0m\x1b[1G\x1b[?25h\x1b[?2026l\x1b[?2026h\x1b[1G\x1b[0mxxxxxxxxxxxxxxxxxxxxxxxxxxxxxxxxxxxxxxxxxxxxxxxxxx\x1b[0m\x1b[51G\x1b[?25h\x1b[?2026l";
+    b"\x1b[?2026h\x1b[0m\x1b[1G\x1b[K\x1b[0m\x1b[1G\x1b[?25h\x1b[?2026lxxxxxxxxxxxxxxxxxxxxxxxxxxxxxxxxxxxxxxxxxxxxxxxxxx";
 
 const ENDED: Comes = Comes::Line(X50);
 
@@ -48,7 +48,7 @@ const BLANKS: &[u8] = b"\x1b[200~xxxxxxxxxxxxxxxxxxxxxxxxxxxxxxxxxxxxxxxxxxxxx  
 
 /// The empty line, and that text.
 const BLANKS_DRAWN: &[u8] =
-    b"\x1b[?2026h\x1b[0m\x1b[1G\x1b[K\x1b[0m\x1b[1G\x1b[?25h\x1b[?2026l\x1b[?2026h\x1b[1G\x1b[0mxxxxxxxxxxxxxxxxxxxxxxxxxxxxxxxxxxxxxxxxxxxxx\x1b[0m\x1b[51G\x1b[?25h\x1b[?2026l";
+    b"\x1b[?2026h\x1b[0m\x1b[1G\x1b[K\x1b[0m\x1b[1G\x1b[?25h\x1b[?2026lxxxxxxxxxxxxxxxxxxxxxxxxxxxxxxxxxxxxxxxxxxxxx\x1b[51G";
 
 const ROWS: &[Row] = &[
     // The row was wrapped to two, and the cursor is in the second: it goes up.
@@ -73,7 +73,7 @@ const ROWS: &[Row] = &[
         after: After::Text(b"\x7f\x1b[2;11R\x7f\x03"),
         asks: true,
         comes: &[Comes::Interrupted],
-        written: b"\x1b[6n\x1b[1A\x1b[1G\x1b[J\x1b[?2026h\x1b[0m\x1b[1G\x1b[K\x1b[1G\x1b[0mxxxxxxxxxxxxxxxxxxxxxxxxxxxxxxxxxxxxxx\x1b[0m\x1b[39G\x1b[?25h\x1b[?2026l\x1b[?2026h\x1b[0m\x1b[39G\x1b[?25h\x1b[?2026l\x1b[?2026h\x1b[0m\x1b[39G\x1b[?25h\x1b[?2026l\r\n",
+        written: b"\x1b[6n\x1b[1A\x1b[1G\x1b[J\x1b[?2026h\x1b[0m\x1b[1G\x1b[K\x1b[1G\x1b[0mxxxxxxxxxxxxxxxxxxxxxxxxxxxxxxxxxxxxxx\x1b[0m\x1b[39G\x1b[?25h\x1b[?2026l\r\n",
     },
     // A terminal that doesn't answer isn't asked at the next resize.
     Row {
@@ -191,10 +191,13 @@ fn a_resize_leaves_nothing_behind(rt: HostRuntime) -> io::Result<()> {
     Ok(())
 }
 
-/// Whether these bytes are written behind such a text in a window of 40 columns, by the place that the terminal reports for the cursor.
-fn is_written_behind_blanks<R: Wait>(
+/// Whether these bytes are written behind a text that was pasted and drawn, in a window of 40 columns, by the place that the terminal reports for
+/// the cursor.
+fn is_written_in_forty<R: Wait>(
     rt: &R,
     alloc: Global,
+    pasted: &'static [u8],
+    drawn: &[u8],
     said: &'static [u8],
     written: &[u8],
 ) -> io::Result<bool> {
@@ -202,7 +205,7 @@ fn is_written_behind_blanks<R: Wait>(
     let acts = Vec::from_array(
         alloc,
         [
-            text(alloc, BLANKS)?,
+            text(alloc, pasted)?,
             Act::Resize(40, 10),
             text(alloc, said)?,
         ],
@@ -212,7 +215,7 @@ fn is_written_behind_blanks<R: Wait>(
     let mut tty = Session::over(rt, alloc, Script::new(acts), term, out, Still)?;
     let mut editor = Editor::new(alloc, Limits::default())?;
     let read = Prompt::new("").read_line(rt, &mut tty, &mut editor);
-    Ok(came(read, Comes::Interrupted) && tty.out.has_both(BLANKS_DRAWN, written))
+    Ok(came(read, Comes::Interrupted) && tty.out.has_both(drawn, written))
 }
 
 #[test]
@@ -220,8 +223,21 @@ fn a_terminal_that_keeps_no_blanks_leaves_no_row(rt: HostRuntime) -> io::Result<
     // The cursor is behind what was kept of the second row, or behind its blanks.
     const UP: &[u8] =
         b"\x1b[6n\x1b[1A\x1b[1G\x1b[J\x1b[?2026h\x1b[0m\x1b[1G\x1b[K\x1b[1G\x1b[0mxxxxxxxxxxxxxxxxxxxxxxxxxxxxxxxxx\x1b[0m\x1b[39G\x1b[?25h\x1b[?2026l\r\n";
-    expect!(rt; is_written_behind_blanks(&rt, rt.alloc(), b"\x1b[2;6R\x03", UP)?);
-    expect!(rt; is_written_behind_blanks(&rt, rt.alloc(), b"\x1b[2;11R\x03", UP)?);
+    expect!(rt; is_written_in_forty(&rt, rt.alloc(), BLANKS, BLANKS_DRAWN, b"\x1b[2;6R\x03", UP)?);
+    expect!(rt; is_written_in_forty(&rt, rt.alloc(), BLANKS, BLANKS_DRAWN, b"\x1b[2;11R\x03", UP)?);
+    Ok(())
+}
+
+#[test]
+fn a_wide_character_at_the_edge_goes_to_the_next_row(rt: HostRuntime) -> io::Result<()> {
+    // Of 40 columns 39 are taken, so that the character of two is the first of the second row, and the cursor is behind twelve columns.
+    const WIDE: &[u8] =
+        b"\x1b[200~xxxxxxxxxxxxxxxxxxxxxxxxxxxxxxxxxxxxxxx\xe6\xbc\xa2xxxxxxxxxx\x1b[201~";
+    const WIDE_DRAWN: &[u8] =
+        b"\x1b[?2026h\x1b[0m\x1b[1G\x1b[K\x1b[0m\x1b[1G\x1b[?25h\x1b[?2026lxxxxxxxxxxxxxxxxxxxxxxxxxxxxxxxxxxxxxxx\xe6\xbc\xa2xxxxxxxxxx";
+    const UP: &[u8] =
+        b"\x1b[6n\x1b[1A\x1b[1G\x1b[J\x1b[?2026h\x1b[0m\x1b[1G\x1b[K\x1b[1G\x1b[0mxxxxxxxxxxxxxxxxxxxxxxxxxx\xe6\xbc\xa2xxxxxxxxxx\x1b[0m\x1b[39G\x1b[?25h\x1b[?2026l\r\n";
+    expect!(rt; is_written_in_forty(&rt, rt.alloc(), WIDE, WIDE_DRAWN, b"\x1b[2;13R\x03", UP)?);
     Ok(())
 }
 

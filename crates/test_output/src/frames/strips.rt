@@ -54,6 +54,25 @@ const NARROW: [(&str, Option<u16>, &str); 2] = [
     ),
 ];
 
+/// A frame that relies on nothing, with the cursor behind four columns of a text that is shown.
+const STILL: &str = "\x1b[?2026h\x1b[0m\x1b[5G\x1b[?25h\x1b[?2026l";
+
+/// Texts of a strip of six columns, each drawn right behind the one before it.
+const NEXT: [(&str, Option<u16>, &str); 10] = [
+    ("ab", Some(2), FIRST),
+    ("abc", Some(3), "c"),
+    ("abc", Some(3), ""),
+    ("abc ", Some(4), " "),
+    ("abc", Some(0), "\x1b[1G"),
+    ("xbc", Some(1), "x"),
+    // A letter that is shown already is shorter than a move over it.
+    ("xb漢", Some(4), "b漢"),
+    ("xb漢", None, "\x1b[?2026h\x1b[0m\x1b[?25l\x1b[?2026l"),
+    ("xb漢", Some(4), STILL),
+    // Behind the strip's last column nobody knows the cursor's place.
+    ("qrstuv", Some(5), "\x1b[1Gqrstuv\x1b[6G"),
+];
+
 /// A buffer of one row with a text.
 fn row_of(alloc: Global, width: u16, text: &str) -> Option<Buffer> {
     let mut buffer = Buffer::new(alloc, width, 1).ok()?;
@@ -71,6 +90,55 @@ fn writes(alloc: Global, strip: &mut Strip, text: &str, cursor: Option<u16>, wan
     let mut bytes: Vec<u8> = Vec::new(alloc);
     let drawn = strip.draw(&mut bytes, ON, &buffer, cursor);
     drawn.is_ok() && bytes.as_slice() == wanted.as_bytes()
+}
+
+/// The same of a frame right behind the last one.
+fn writes_next(
+    alloc: Global,
+    strip: &mut Strip,
+    text: &str,
+    cursor: Option<u16>,
+    wanted: &str,
+) -> bool {
+    let Some(buffer) = row_of(alloc, strip.width(), text) else {
+        return false;
+    };
+    let mut bytes: Vec<u8> = Vec::new(alloc);
+    let drawn = strip.draw_next(&mut bytes, ON, &buffer, cursor);
+    drawn.is_ok() && bytes.as_slice() == wanted.as_bytes()
+}
+
+/// Whether a frame right behind the last one that is refused or breaks off writes a beginning of it, and what the next one writes then.
+fn are_next_broken(alloc: Global, strip: &mut Strip) -> bool {
+    let Some(buffer) = row_of(alloc, strip.width(), "xyz") else {
+        return false;
+    };
+    for room in 0..3usize {
+        strip.forget();
+        if !writes_next(alloc, strip, "ab", Some(2), FIRST)
+            || !writes_next(alloc, strip, "ab", Some(0), "\x1b[1G")
+        {
+            return false;
+        }
+        let mut short = Short {
+            bytes: Vec::new(alloc),
+            room,
+        };
+        // A refusal writes nothing, and the row is known as before.
+        let refused = strip.draw_next(&mut short, ON, &buffer, Some(6));
+        if !matches!(refused, Err(DrawFault::Cursor)) {
+            return false;
+        }
+        let drawn = strip.draw_next(&mut short, ON, &buffer, Some(3));
+        let is_begun = b"xyz".starts_with(&short.bytes) && short.bytes.len() == room;
+        if !is_begun || drawn.err().map(own_kind) != Some(ErrorKind::BrokenPipe) {
+            return false;
+        }
+        if !writes_next(alloc, strip, "ab", Some(2), FIRST) {
+            return false;
+        }
+    }
+    true
 }
 
 fn are_written(alloc: Global, strip: &mut Strip, rows: &[(&str, Option<u16>, &str)]) -> bool {
@@ -124,6 +192,20 @@ fn are_broken(alloc: Global, strip: &mut Strip) -> bool {
         }
     }
     true
+}
+
+#[test]
+fn strips_of_who_draws_alone_write_what_changed(rt: HostRuntime) -> Result<(), AllocError> {
+    let alloc = rt.alloc();
+    let mut strip = Strip::new(alloc, 6)?;
+    for (text, cursor, wanted) in &NEXT {
+        expect!(rt; writes_next(alloc, &mut strip, text, *cursor, wanted));
+    }
+    expect!(rt; writes_next(alloc, &mut strip, "xb漢", Some(4), "\x1b[1Gxb漢  \x1b[5G"));
+    strip.forget_cursor();
+    expect!(rt; writes_next(alloc, &mut strip, "xb漢", Some(4), STILL));
+    expect!(rt; are_next_broken(alloc, &mut strip));
+    Ok(())
 }
 
 #[test]

@@ -11,7 +11,7 @@ invariant-loop-place l = record {
   best_boundary : IsCharBoundary l.text l.best.0;
   back : l.place ≤ l.at;
   best_back : l.best.0 ≤ l.at;
-  few : l.used ≤ 65535;
+  few : l.used ≤ l.room - 1;
   best_few : l.best.1 ≤ 65535;
   same : start l.room (split_at l.text l.at)
       ≡ furthest (l.room - 1) l.used (chars_before l.text l.place) (chars_from l.text l.place) (start_at l.text l.best);

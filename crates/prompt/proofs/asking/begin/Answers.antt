@@ -10,7 +10,7 @@ returns-in-Err-clause-stops g c given =
     let look = look_of given (g.H.Helper.hints c.args.prompt.now.helper.now) c.args.prompt.now.text.now c.args.prompt.now.asks in
     let k = c.args.editor.now in
     let old = g.W.Write.contents c.args.tty.now.out in
-    let a : Area = area (record { width = 0; drawn = None; room = 0 }) false in
+    let a : Area = area (record { width = 0; drawn = None; left = None; room = 0 }) false in
     all_of look k [] k (Due a false) old (g.W.Write.contents c.enable_raw_mode.new.self.out) (moved look k g.W.Write.contents [] k (Due a false) old c.args.tty.now.out c.enable_raw_mode.new.self.out (c.in-Err.ensures.others.0) (starts look k a old refl))
 
 pub returns-in-Err-columns_for-clause-stops : goal.returns-in-Err-columns_for-clause-stops
@@ -18,7 +18,7 @@ returns-in-Err-columns_for-clause-stops g c given =
     let look = look_of given (g.H.Helper.hints c.args.prompt.now.helper.now) c.args.prompt.now.text.now c.args.prompt.now.asks in
     let k = c.args.editor.now in
     let old = g.W.Write.contents c.args.tty.now.out in
-    let a : Area = area (record { width = 0; drawn = None; room = 0 }) false in
+    let a : Area = area (record { width = 0; drawn = None; left = None; room = 0 }) false in
     all_of look k [] k (Due a false) old (g.W.Write.contents c.columns_for.new.tty.out) (moved look k g.W.Write.contents [] k (Due a false) old c.args.tty.now.out c.columns_for.new.tty.out (c.columns_for.ensures.others.0 ∙ c.in-Ok.ensures.others.0) (starts look k a old refl))
 
 pub returns-in_err-row-clause-stops : goal.returns-in_err-row-clause-stops
@@ -26,7 +26,7 @@ returns-in_err-row-clause-stops g c = err_of c.from_residual.result (λ given.
     let look = look_of given (g.H.Helper.hints c.args.prompt.now.helper.now) c.args.prompt.now.text.now c.args.prompt.now.asks in
     let k = c.args.editor.now in
     let old = g.W.Write.contents c.args.tty.now.out in
-    let a : Area = area (record { width = 0; drawn = None; room = 0 }) false in
+    let a : Area = area (record { width = 0; drawn = None; left = None; room = 0 }) false in
     all_of look k [] k (Due a false) old (g.W.Write.contents c.columns_for.new.tty.out) (moved look k g.W.Write.contents [] k (Due a false) old c.args.tty.now.out c.columns_for.new.tty.out (c.columns_for.ensures.others.0 ∙ c.in-Ok.ensures.others.0) (starts look k a old refl)))
 
 pub returns-in-Ok-show-clause-shows : goal.returns-in-Ok-show-clause-shows

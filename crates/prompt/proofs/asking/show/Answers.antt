@@ -14,12 +14,12 @@ returns-in-None-clause-shows g c =
     let w = c.args.editor.now in
     let hint = c.hint.ensures ∙ ap hints (sym (encodes-chars c.text.result.now c.text.utf8)) ∙ ap (λ t. hints (encode_utf8_all t)) (c.text.ensures.text ∙ ap line_text c.line-line.ensures) in
     let old = g.W.Write.contents c.args.out.now in
-    let new = g.W.Write.contents c.draw.new.out in
+    let new = g.W.Write.contents c.draw_next.new.out in
     let a = area c.args.row.now.strip c.args.row.now.has_hint in
-    let b = area c.draw.new.self.strip c.draw.new.self.has_hint in
-    subst (λ (o : Option (List ℕ)). OnOk c.draw.result (Draws (prompt_or o (is_ahead w.last) text) w.line (hint_or o (hints (encode_utf8_all (line_text w.line)))) a b old new)) c.in-None.ensures.text
-    (subst (λ (l : Split). OnOk c.draw.result (Draws text l (hints (encode_utf8_all (line_text w.line))) a b old new)) c.line-line.ensures
-    (subst (λ (t : List ℕ). OnOk c.draw.result (Draws text c.line-line.result.now t a b old new)) hint c.draw.ensures.shows))
+    let b = area c.draw_next.new.self.strip c.draw_next.new.self.has_hint in
+    subst (λ (o : Option (List ℕ)). OnOk c.draw_next.result (Draws (prompt_or o (is_ahead w.last) text) w.line (hint_or o (hints (encode_utf8_all (line_text w.line)))) a b old new)) c.in-None.ensures.text
+    (subst (λ (l : Split). OnOk c.draw_next.result (Draws text l (hints (encode_utf8_all (line_text w.line))) a b old new)) c.line-line.ensures
+    (subst (λ (t : List ℕ). OnOk c.draw_next.result (Draws text c.line-line.result.now t a b old new)) hint c.draw_next.ensures.shows))
 
 pub returns-in-None-clause-stops : goal.returns-in-None-clause-stops
 returns-in-None-clause-stops g c =
@@ -28,11 +28,11 @@ returns-in-None-clause-stops g c =
     let w = c.args.editor.now in
     let hint = c.hint.ensures ∙ ap hints (sym (encodes-chars c.text.result.now c.text.utf8)) ∙ ap (λ t. hints (encode_utf8_all t)) (c.text.ensures.text ∙ ap line_text c.line-line.ensures) in
     let old = g.W.Write.contents c.args.out.now in
-    let new = g.W.Write.contents c.draw.new.out in
+    let new = g.W.Write.contents c.draw_next.new.out in
     let a = area c.args.row.now.strip c.args.row.now.has_hint in
-    subst (λ (o : Option (List ℕ)). OnErr c.draw.result (DrawsFront (prompt_or o (is_ahead w.last) text) w.line (hint_or o (hints (encode_utf8_all (line_text w.line)))) a old new)) c.in-None.ensures.text
-    (subst (λ (l : Split). OnErr c.draw.result (DrawsFront text l (hints (encode_utf8_all (line_text w.line))) a old new)) c.line-line.ensures
-    (subst (λ (t : List ℕ). OnErr c.draw.result (DrawsFront text c.line-line.result.now t a old new)) hint c.draw.ensures.stops))
+    subst (λ (o : Option (List ℕ)). OnErr c.draw_next.result (DrawsFront (prompt_or o (is_ahead w.last) text) w.line (hint_or o (hints (encode_utf8_all (line_text w.line)))) a old new)) c.in-None.ensures.text
+    (subst (λ (l : Split). OnErr c.draw_next.result (DrawsFront text l (hints (encode_utf8_all (line_text w.line))) a old new)) c.line-line.ensures
+    (subst (λ (t : List ℕ). OnErr c.draw_next.result (DrawsFront text c.line-line.result.now t a old new)) hint c.draw_next.ensures.stops))
 
 pub returns-in-Some-clause-shows : goal.returns-in-Some-clause-shows
 returns-in-Some-clause-shows g c =

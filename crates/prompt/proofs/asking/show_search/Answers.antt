@@ -20,18 +20,18 @@ returns-clause-shows g c =
     let text = c.as_str.ensures.value ∙ c.in_ok-text.ensures ∙ ap (λ (b : Bool). search_text b c.args.pattern.now) c.is_ahead.ensures
     ∙ ap (λ t. search_text (is_ahead c.args.editor.now.last) t) (sym (encodes-chars c.args.pattern.now c.utf8.pattern)) in
     let old = g.W.Write.contents c.args.out.now in
-    let new = g.W.Write.contents c.draw.new.out in
+    let new = g.W.Write.contents c.draw_next.new.out in
     let a = area c.args.row.now.strip c.args.row.now.has_hint in
-    let b = area c.draw.new.self.strip c.draw.new.self.has_hint in
-    subst (λ (l : Split). OnOk c.draw.result (Draws (search_text (is_ahead c.args.editor.now.last) (encode_utf8_all (chars c.args.pattern.now))) l [] a b old new)) c.line.ensures
-    (subst (λ (t : List ℕ). OnOk c.draw.result (Draws t c.line.result.now [] a b old new)) text c.draw.ensures.shows)
+    let b = area c.draw_next.new.self.strip c.draw_next.new.self.has_hint in
+    subst (λ (l : Split). OnOk c.draw_next.result (Draws (search_text (is_ahead c.args.editor.now.last) (encode_utf8_all (chars c.args.pattern.now))) l [] a b old new)) c.line.ensures
+    (subst (λ (t : List ℕ). OnOk c.draw_next.result (Draws t c.line.result.now [] a b old new)) text c.draw_next.ensures.shows)
 
 pub returns-clause-stops : goal.returns-clause-stops
 returns-clause-stops g c =
     let text = c.as_str.ensures.value ∙ c.in_ok-text.ensures ∙ ap (λ (b : Bool). search_text b c.args.pattern.now) c.is_ahead.ensures
     ∙ ap (λ t. search_text (is_ahead c.args.editor.now.last) t) (sym (encodes-chars c.args.pattern.now c.utf8.pattern)) in
     let old = g.W.Write.contents c.args.out.now in
-    let new = g.W.Write.contents c.draw.new.out in
+    let new = g.W.Write.contents c.draw_next.new.out in
     let a = area c.args.row.now.strip c.args.row.now.has_hint in
-    subst (λ (l : Split). OnErr c.draw.result (DrawsFront (search_text (is_ahead c.args.editor.now.last) (encode_utf8_all (chars c.args.pattern.now))) l [] a old new)) c.line.ensures
-    (subst (λ (t : List ℕ). OnErr c.draw.result (DrawsFront t c.line.result.now [] a old new)) text c.draw.ensures.stops)
+    subst (λ (l : Split). OnErr c.draw_next.result (DrawsFront (search_text (is_ahead c.args.editor.now.last) (encode_utf8_all (chars c.args.pattern.now))) l [] a old new)) c.line.ensures
+    (subst (λ (t : List ℕ). OnErr c.draw_next.result (DrawsFront t c.line.result.now [] a old new)) text c.draw_next.ensures.stops)

@@ -1,12 +1,14 @@
-use Rattle.std.proofs.Common.{rules, ◌≡◌, ◌≢◌, ◌++◌, ◌+◌, ◌*◌, ◌<◌, ◌≤◌, ◌^◌, List, None, set, length, get_or, arith, true, false, sym, ap, ◌∙◌, subst, Some}
+use Rattle.std.proofs.Common.{rules, ◌≡◌, ◌≢◌, ◌++◌, ◌+◌, ◌*◌, ◌<◌, ◌≤◌, ◌^◌, List, set, length, get_or, take, arith, true, false, sym, ap, ◌∙◌, subst, Some}
 use Rattle.std.proofs.lemmas.List.{get_or_default}
 use Rattle.screen.specs.Cells.{FitsCell, IsPlaced, blank, is_covered, is_wide, last_place, shown_text}
 use Rattle.screen.specs.Grids.{is_last, right_of}
 use Rattle.screen.specs.Updates.{HasToBePrinted}
 use Rattle.screen.specs.declared.strokes.Stroke.{Stroke}
 use Rattle.screen.specs.inside.Pens.{PutsStrokes}
+use Rattle.screen.specs.inside.Scans.{known_cursor, known_style}
 use Rattle.screen.specs.inside.Settings.{Sets}
-use Rattle.screen.specs.inside.Strokes.{AreFitting, cell_strokes, first_strokes}
+use Rattle.screen.specs.inside.Strokes.{AreFitting, again_strokes, cell_strokes, first_strokes}
+use Rattle.screen.proofs.Crossings.{approach_counted, approach_fitting, approach_reaches, comes}
 use Rattle.screen.proofs.Putting.{puts_both}
 use Rattle.screen.proofs.Scans.{ends, paints, paints_counted, paints_fitting, starts, starts_counted, starts_fitting, placed_held, within_length}
 use Rattle.screen.proofs.Skips.{AreCopied, AreSame, Stage, copied_all, copied_more, copied_one, copied_same, copied_second, copied_start, last_from, stage_covered, stage_second, stage_skipped}
@@ -18,20 +20,26 @@ pub loop-at-init : goal.loop-at-init
 loop-at-init g c =
     let w = c.args.size.0 in
     let h = c.args.size.1 in
-    let known = c.args.is_known in
+    let known = c.args.start in
     let before = c.args.before.now in
     let after = c.args.after.now in
     let first = first_strokes known in
     let next = c.next_difference-at in
     let same_length : length before ≡ length after = within_length known w h before c.requires.before ∙ sym c.requires.length in
     let same : AreSame before after 0 next.result = next.ensures.same in
-    let begun : Stage known w h before after first None None 0 = record {
+    let cursor = known_cursor known in
+    let style = known_style known in
+    let begun : Stage known w h before after first cursor style 0 = record {
       reached = starts known w h before after c.requires.before c.requires.before_paired c.requires.after_paired;
+      again = 0;
       counted = starts_counted known before after;
       sparing = spares_start known w before after;
-    } in (
+    } in
+    let stage : Stage known w h before after first cursor style next.result =
+    stage_skipped known w h before after first cursor style 0 next.result c.requires.before_paired c.requires.after_paired same_length next.ensures.from next.ensures.bound same begun in (
       first,
-      stage_skipped known w h before after first None None 0 next.result c.requires.before_paired c.requires.after_paired same_length next.ensures.from next.ensures.bound same begun,
+      subst (λ o. Stage known w h before after first o c.style-style.result next.result) (sym c.cursor-cursor.ensures)
+          (subst (λ o. Stage known w h before after first cursor o next.result) (sym c.style-style.ensures) stage),
       starts_fitting known,
       c.put_first.ensures,
       copied_more before after before 0 next.result (copied_start before after same_length) next.ensures.from same,
@@ -47,7 +55,7 @@ loop-at-preserved g c =
     let cell = c.index-after-at.result in
     let w = c.args.size.0 in
     let h = c.args.size.1 in
-    let known = c.args.is_known in
+    let known = c.args.start in
     let before = c.args.before.now in
     let after = c.args.after.now in
     let b = get_or before k blank in
@@ -75,7 +83,12 @@ loop-at-preserved g c =
     elim c.if-not-is_covered.branch [
       | then-not-is_covered p ↦
           let place = p.place_of-place.result in
-          let there = p.is_at-there.result in
+          let there = p.approach-there.result in
+          let (cells, way, puts) = p.approach-there.ensures in
+          let again = again_strokes cells in
+          let front = strokes ++ again in
+          let near : place.0 < w = p.place_of-place.ensures.column in
+          let (to, is_there, reached) = approach_reaches known w h place.1 place.0 before after k c.loop-at.cursor c.loop-at.style strokes cells there pa c.requires.fits (omega (arith, la)) p.place_of-place.ensures.at near way stage.reached in
           let how = p.setting_of-setting.result in
           let second = p.copy_second-at in
           let last = second.result in
@@ -90,24 +103,30 @@ loop-at-preserved g c =
           let cursor : j.cursor ≡ next = ◌∙◌ {b = right_of w last} {c = next} (◌∙◌ {b = p.right_of-cursor.result} {c = right_of w last} p.cursor-is p.right_of-cursor.ensures) (ap (right_of w) is_last_place) in
           let set_now : j.style ≡ Some cell.style = search rules in
           let sets = subst (λ s. Sets c.loop-at.style s how) p.packed_style.ensures p.setting_of-setting.ensures.sets in
-          let painted : Stage known w h before after (strokes ++ more) next (Some cell.style) (k + 1) = record {
-            reached = paints known k w h before after c.loop-at.cursor c.loop-at.style strokes b cell there how place.1 place.0 kb la lb c.requires.length eb ec p.place_of-place.ensures.row p.place_of-place.ensures.column high wide
-                p.place_of-place.ensures.at sets p.setting_of-setting.ensures.fits fits uncovered room pb pa p.is_at-there.ensures.0 stage.reached;
-            counted = paints_counted before after k strokes b cell there how place.1 place.0 kb la eb ec prints stage.counted;
-            sparing = spares_painted known w before after k c.loop-at.cursor c.loop-at.style strokes b cell there how place.0 place.1 kb la eb ec prints p.is_at-there.ensures sets stage.sparing;
+          let painted : Stage known w h before after (front ++ more) next (Some cell.style) (k + 1) = record {
+            reached = paints known k w h before after to c.loop-at.style front b cell there how place.1 place.0 kb la lb c.requires.length eb ec p.place_of-place.ensures.row p.place_of-place.ensures.column high wide
+                p.place_of-place.ensures.at sets p.setting_of-setting.ensures.fits fits uncovered room pb pa is_there reached;
+            again = stage.again + length cells;
+            counted = paints_counted before after k (stage.again + length cells) front b cell there how place.1 place.0 kb la eb ec prints
+                (approach_counted (take k before) (take k after) after stage.again c.loop-at.cursor c.loop-at.style k place.0 cells there strokes way stage.counted);
+            sparing = spares_painted known w before after k stage.again c.loop-at.cursor c.loop-at.style strokes cells b cell there how place.0 place.1 kb la eb ec prints
+                (comes after c.loop-at.cursor c.loop-at.style k place.0 cells there (omega (arith, la)) way) sets stage.sparing;
           } in
-          let all : Stage known w h before after (strokes ++ more) next (Some cell.style) (last + 1) =
-          stage_second known w h before after (strokes ++ more) next (Some cell.style) k last pb pa same_length la second.ensures.bound second.ensures.value painted in
-          let put : PutsStrokes (strokes ++ more) old c.args.pen.now (held p.paint.new.writer) p.paint.new.pen =
-          puts_both strokes more old (held c.loop-at.writer) (held p.paint.new.writer) c.args.pen.now c.loop-at.pen p.paint.new.pen inv.3 p.paint.ensures in
-          let cells : AreCopied before after second.new.before (last + 1) =
+          let all : Stage known w h before after (front ++ more) next (Some cell.style) (last + 1) =
+          stage_second known w h before after (front ++ more) next (Some cell.style) k last pb pa same_length la second.ensures.bound second.ensures.value painted in
+          let put_front : PutsStrokes front old c.args.pen.now (held p.approach-there.new.writer) p.approach-there.new.pen =
+          puts_both strokes again old (held c.loop-at.writer) (held p.approach-there.new.writer) c.args.pen.now c.loop-at.pen p.approach-there.new.pen inv.3 puts in
+          let put : PutsStrokes (front ++ more) old c.args.pen.now (held p.paint.new.writer) p.paint.new.pen =
+          puts_both front more old (held p.approach-there.new.writer) (held p.paint.new.writer) c.args.pen.now p.approach-there.new.pen p.paint.new.pen put_front p.paint.ensures in
+          let copies : AreCopied before after second.new.before (last + 1) =
           copied_second before after shown second.new.before k last one second.ensures.length (subst (λ n. k ≤ n) (sym is_last_place) (last_from k cell)) second.ensures.copied second.ensures.others in (
-            strokes ++ more,
-            subst (λ n. Stage known w h before after (strokes ++ more) j.cursor j.style (n + 1)) (sym p.at-is)
-                (subst (λ o. Stage known w h before after (strokes ++ more) o j.style (last + 1)) (sym cursor) (subst (λ o. Stage known w h before after (strokes ++ more) next o (last + 1)) (sym set_now) all)),
-            paints_fitting known strokes there how place.0 place.1 cell (omega (arith, p.place_of-place.ensures.column, wide)) (omega (arith, p.place_of-place.ensures.row, high)) fits inv.2,
-            subst (λ n. PutsStrokes (strokes ++ more) old c.args.pen.now (held n) j.pen) (sym p.writer-is) (subst (λ n. PutsStrokes (strokes ++ more) old c.args.pen.now (held p.paint.new.writer) n) (sym p.pen-is) put),
-            subst (λ n. AreCopied before after j.before (n + 1)) (sym p.at-is) (subst (λ l. AreCopied before after l (last + 1)) (sym p.before-is) cells),
+            front ++ more,
+            subst (λ n. Stage known w h before after (front ++ more) j.cursor j.style (n + 1)) (sym p.at-is)
+                (subst (λ o. Stage known w h before after (front ++ more) o j.style (last + 1)) (sym cursor) (subst (λ o. Stage known w h before after (front ++ more) next o (last + 1)) (sym set_now) all)),
+            paints_fitting known front there how place.0 place.1 cell (omega (arith, p.place_of-place.ensures.column, wide)) (omega (arith, p.place_of-place.ensures.row, high)) fits
+                (approach_fitting known after c.loop-at.cursor c.loop-at.style k place.0 cells there strokes c.requires.fits way inv.2),
+            subst (λ n. PutsStrokes (front ++ more) old c.args.pen.now (held n) j.pen) (sym p.writer-is) (subst (λ n. PutsStrokes (front ++ more) old c.args.pen.now (held p.paint.new.writer) n) (sym p.pen-is) put),
+            subst (λ n. AreCopied before after j.before (n + 1)) (sym p.at-is) (subst (λ l. AreCopied before after l (last + 1)) (sym p.before-is) copies),
           )
       | else-not-is_covered q ↦
           let covered : is_covered cell ≡ true = search rules in
@@ -135,7 +154,7 @@ loop-at-preserved g c =
 pub returns-clause-strokes : goal.returns-clause-strokes
 returns-clause-strokes g c =
     let held = g.W.Write.contents in
-    let known = c.args.is_known in
+    let known = c.args.start in
     let w = c.args.size.0 in
     let h = c.args.size.1 in
     let k = c.loop-at.at in
@@ -146,8 +165,9 @@ returns-clause-strokes g c =
     let long : w * h ≤ k = omega (arith, la, c.loop-at-test.false) in
     let inv : (strokes : List Stroke) × Stage known w h before after strokes c.loop-at.cursor c.loop-at.style k × AreFitting known strokes × PutsStrokes strokes (held c.args.writer.now) c.args.pen.now (held c.loop-at.writer) c.loop-at.pen
     × AreCopied before after c.loop-at.before k × (k ≤ length after) × (k < length after → get_or c.loop-at.before k blank ≢ get_or after k blank) = c.loop-at.invariant in
-    let few = spares_all known w k before after c.loop-at.cursor c.loop-at.style inv.0 (omega (arith, lb, long)) (omega (arith, la, long)) inv.1.sparing in
-    (inv.0, ends known k w h before after c.loop-at.cursor c.loop-at.style inv.0 lb la long inv.1.reached inv.1.counted few, inv.2, inv.3)
+    let stage = inv.1 in
+    let few = spares_all known w k stage.again before after c.loop-at.cursor c.loop-at.style inv.0 (omega (arith, lb, long)) (omega (arith, la, long)) stage.sparing in
+    (inv.0, ends known k w h stage.again before after c.loop-at.cursor c.loop-at.style inv.0 lb la long stage.reached stage.counted few, inv.2, inv.3)
 
 pub returns-clause-shown : goal.returns-clause-shown
 returns-clause-shown g c =

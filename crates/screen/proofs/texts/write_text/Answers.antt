@@ -1,4 +1,4 @@
-use Rattle.std.proofs.Common.{◌≡◌, ◌+◌, ◌-◌, ◌<◌, ◌≤◌, ◌++◌, ◌∷◌, [], Some, None, subst, ap, sym, ◌∙◌, arith, rules}
+use Rattle.std.proofs.Common.{◌≡◌, ◌+◌, ◌-◌, ◌<◌, ◌≤◌, ◌++◌, ◌∷◌, [], Some, None, map, take, subst, ap, sym, ◌∙◌, arith, rules}
 use Rattle.std.specs.List.{AllByRecursion}
 use Rattle.std.specs.Str.{chars}
 use Rattle.screen.specs.Cells.{Cell, FitsCell}
@@ -6,11 +6,22 @@ use Rattle.screen.specs.Overwriting.{cells_with, overwritten}
 use Rattle.screen.specs.Parts.{text_parts}
 use Rattle.screen.specs.Texts.{cells_of, columns, text_columns, within}
 use Rattle.screen.specs.inside.Edits.{edit, edited}
-use Rattle.screen.proofs.Prints.{IsWritten, left_unwritten, shown_all, shown_front, some_written, written_none, written_with, written_without}
+use Rattle.screen.specs.inside.Ascii.{bare_cell}
+use Rattle.screen.proofs.Ascii.{letters_written}
+use Rattle.screen.proofs.Prints.{IsWritten, left_unwritten, shown_all, shown_front, some_written, written_with, written_without}
 use Rattle.screen.proofs.texts.write_text.Goals as goal
 
 pub loop-part-init : goal.loop-part-init
-loop-part-init c = record { utf8 = search rules; done = []; written = written_none c.args.how (text_parts (chars c.args.text.now)) c.args.room c.args.at c.args.style.now c.args.cells.now }
+loop-part-init c =
+    let text = c.args.text.now in
+    let n = c.write_ascii-count.result in
+    let letters = c.write_ascii-count.ensures in
+    record {
+      utf8 = search rules;
+      done = map (λ c. c ∷ []) (take n text);
+      written = letters_written c.args.how text c.range-rest.result.now c.args.room c.args.at n c.args.style.now c.args.cells.now c.write_ascii-count.new.cells c.utf8.text letters.bare letters.few c.range-rest.ensures.value
+          (letters.cells ∙ ap (λ s. overwritten c.args.cells.now c.args.at (map (bare_cell s) (take n text))) c.new-style.ensures);
+    }
 
 pub loop-part-preserved-in-None : goal.loop-part-preserved-in-None
 loop-part-preserved-in-None c =

@@ -25,7 +25,7 @@ pub returns-then-has_control-clause-cut : goal.returns-then-has_control-clause-c
 returns-then-has_control-clause-cut g c =
     let look = (look_of (given_by (g.H.Helper.completes c.args.self.now.helper.now)) (g.H.Helper.hints c.args.self.now.helper.now) c.args.self.now.text.now c.args.self.now.asks) in
     let old = g.W.Write.contents c.args.tty.now.out in
-    let a : Area = area (record { width = 0; drawn = None; room = 0 }) false in
+    let a : Area = area (record { width = 0; drawn = None; left = None; room = 0 }) false in
     record { stops = stopped unread; written = all_of look c.args.editor.now [] c.args.editor.now (Due a false) old old (starts look c.args.editor.now a old refl) }
 
 pub returns-in-Err-clause-cut : goal.returns-in-Err-clause-cut

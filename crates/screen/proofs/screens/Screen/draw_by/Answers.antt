@@ -7,7 +7,7 @@ use Rattle.screen.specs.declared.strokes.Stroke.{Stroke}
 use Rattle.screen.specs.Cells.{blank}
 use Rattle.screen.specs.Screens.{View}
 use Rattle.screen.specs.Drawings.{CursorFits, forgotten}
-use Rattle.screen.specs.inside.Scans.{Planned, is_known}
+use Rattle.screen.specs.inside.Scans.{Planned, is_known, start_by}
 use Rattle.screen.specs.inside.Strokes.{AreFitting, written_of}
 use Rattle.screen.proofs.Frames.{fitting_by, frame_of, view_of}
 use Rattle.screen.proofs.Written.{strokes_read}
@@ -40,10 +40,10 @@ returns-in-Ok-clause-frame g c =
     let prep : prepared ≡ (if is_known drawn colors then shown else replicate (length shown) blank) = search rules in
     let begins : before ≡ prepared = search rules in
     let len : length shown ≡ w * h = c.self.invariant.0 in
-    let written : (strokes : List Stroke) × Planned known w h before after c.args.cursor strokes × AreFitting known strokes × Appends (held c.args.writer.now) (held c.write_frame.new.writer) (text_of (written_of in_row colors strokes)) =
+    let written : (strokes : List Stroke) × Planned known w h before after c.args.cursor strokes × AreFitting (start_by known) strokes × Appends (held c.args.writer.now) (held c.write_frame.new.writer) (text_of (written_of in_row colors strokes)) =
     c.in-Ok.ensures.ok in
     let ts = written_of in_row colors written.0 in
-    let read = strokes_read in_row colors known written.0 written.2 in (
+    let read = strokes_read in_row colors (start_by known) written.0 written.2 in (
       written.0,
       (text_of ts, written.3, read, λ us other. one_reading (text_of ts) us ts other read),
       fitting_by w h drawn shown room c.args.self.now colors known written.0 view knows written.2,
@@ -74,7 +74,7 @@ returns-in-Err-clause-err g c =
     let begins : before ≡ prepared = search rules in
     let len : length shown ≡ w * h = c.self.invariant.0 in
     let fits : CursorFits (view_of w h drawn shown room) c.args.cursor = search rules in
-    let written : (strokes : List Stroke) × Planned known w h before after c.args.cursor strokes × AreFitting known strokes × AppendsFront (held c.args.writer.now) (held c.write_frame.new.writer) (text_of (written_of in_row colors strokes)) =
+    let written : (strokes : List Stroke) × Planned known w h before after c.args.cursor strokes × AreFitting (start_by known) strokes × AppendsFront (held c.args.writer.now) (held c.write_frame.new.writer) (text_of (written_of in_row colors strokes)) =
     c.in-Err.ensures.err in (
       (pw ∙ ap (λ s. s.width) view, ph ∙ ap (λ s. s.height) view),
       subst (λ s. CursorFits s c.args.cursor) view fits,
