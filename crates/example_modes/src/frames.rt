@@ -8,12 +8,15 @@
 //! | `print COLUMN ROW FRONT BACK UNDERLINE ATTRIBUTES TEXT` | prints a text into the buffer, in a style |
 //! | `draw`, `draw COLUMN ROW` | draws the buffer, with the cursor hidden, or shown at a place |
 //! | `forget` | forgets what the terminal shows |
+//! | `block WIDTH HEIGHT` | gives the buffer a size, in which it is blank then, and draws a block from now on: another one if the width is another |
+//! | `next COLUMN ROW` | draws the block right behind the last frame |
+//! | `write TEXT` | writes a text as it is |
 //!
 //! A colour is given by parameters of SGR, as `5;9` and `2;1;2;3`, or is `default`. An attribute is given by its place in declared order, as `1,11` of bold
 //! and reverse. `-` means none. `strength/screens` draws so in a terminal, and compares each cell.
 
 use crossterm::style::{Attribute, Attributes, Color, ColorOutput, ContentStyle};
-use screen::{Buffer, CellFault, DrawFault, Screen};
+use screen::{Block, Buffer, CellFault, DrawFault, Screen};
 use std::alloc::{AllocError, Global};
 use std::io::{self, BufRead, Eprint, ErrorKind, Write};
 use thiserror::Error;
@@ -28,6 +31,8 @@ enum Wrong {
     Cell(CellFault),
     #[error("it isn't drawn: {0}")]
     Draw(DrawFault),
+    #[error("it isn't written: {0}")]
+    Write(io::Error),
     #[error("out of memory")]
     Memory,
 }
@@ -82,11 +87,13 @@ fn style(front: &str, back: &str, underline: &str, names: &str) -> Result<Conten
     })
 }
 
-/// A buffer, and the screen that it is drawn on.
+/// A buffer, and the screen or the block that it is drawn on.
 #[derive(Drop)]
 struct Frames {
     buffer: Buffer,
     screen: Screen,
+    block: Block,
+    is_block: bool,
 }
 
 impl Frames {
@@ -94,13 +101,31 @@ impl Frames {
         Ok(Frames {
             buffer: Buffer::new(alloc, 0, 0)?,
             screen: Screen::new(alloc, 0, 0)?,
+            block: Block::new(alloc, ColorOutput::Enabled, 0),
+            is_block: false,
         })
+    }
+
+    fn forget(&mut self) {
+        self.screen.forget();
+        self.block.forget();
     }
 
     fn resize(&mut self, words: &str) -> Result<(), Wrong> {
         let (width, height) = pair(words)?;
         self.buffer.resize(width, height)?;
         self.screen.resize(width, height)?;
+        self.is_block = false;
+        Ok(())
+    }
+
+    fn resize_block(&mut self, words: &str) -> Result<(), Wrong> {
+        let (width, height) = pair(words)?;
+        self.buffer.resize(width, height)?;
+        if self.block.width() != width {
+            self.block.resize(width);
+        }
+        self.is_block = true;
         Ok(())
     }
 
@@ -125,10 +150,21 @@ impl Frames {
         } else {
             Some(pair(words)?)
         };
-        let drawn = self
-            .screen
-            .draw(out, ColorOutput::Enabled, &self.buffer, cursor);
+        let drawn = if self.is_block {
+            self.block
+                .draw(out, &self.buffer, cursor.ok_or(Wrong::Words)?)
+        } else {
+            self.screen
+                .draw(out, ColorOutput::Enabled, &self.buffer, cursor)
+        };
         match drawn {
+            Ok(()) => Ok(()),
+            Err(fault) => Err(Wrong::Draw(fault)),
+        }
+    }
+
+    fn draw_next<W: Write>(&mut self, out: &mut W, words: &str) -> Result<(), Wrong> {
+        match self.block.draw_next(out, &self.buffer, pair(words)?) {
             Ok(()) => Ok(()),
             Err(fault) => Err(Wrong::Draw(fault)),
         }
@@ -142,9 +178,15 @@ impl Frames {
             "print" => self.print(rest),
             "draw" => self.draw(out, rest),
             "forget" => {
-                self.screen.forget();
+                self.forget();
                 Ok(())
             }
+            "block" => self.resize_block(rest),
+            "next" => self.draw_next(out, rest),
+            "write" => match out.write_all(rest.as_bytes()) {
+                Ok(()) => Ok(()),
+                Err(error) => Err(Wrong::Write(error)),
+            },
             _ => Err(Wrong::Words),
         }
     }

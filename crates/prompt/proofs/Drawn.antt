@@ -8,7 +8,7 @@ use Rattle.crossterm_command.specs.declared.color_output.ColorOutput.{ColorOutpu
 use Rattle.crossterm_command.specs.declared.color_output.ColorOutput.TheVariants.{Enabled}
 use Rattle.line_editor.specs.Splits.{Split}
 use Rattle.screen.specs.declared.faults.DrawFault.{DrawFault}
-use Rattle.screen.specs.declared.faults.DrawFault.TheVariants.{Size, Cursor, Command}
+use Rattle.screen.specs.declared.faults.DrawFault.TheVariants.{Size, Cursor, Memory, Command}
 use Rattle.screen.specs.Buffers.{Picture}
 use Rattle.screen.specs.Drawings.{knows_cells}
 use Rattle.screen.specs.Strips.{IsFrameBy, IsNextFrame, IsOneRow, IsRowFrame, StripView, RowNotDrawn, with_row, without_cursor}
@@ -69,5 +69,6 @@ module _ (prompt : List ℕ) (line : Split) (hint : List ℕ) (s : StripView) (h
       → RowNotDrawn fault s t p (Some column) (IsNextFrame s Enabled p (Some column)) old new → DrawsFront prompt line hint (area s has) old new
   cut Size t h p width column old new wide same_width pic (size, strip, is) = none old new (same old new is)
   cut Cursor t h p width column old new wide same_width pic (size, inside, strip, is) = none old new (same old new is)
+  cut Memory t h p width column old new wide same_width pic refused = absurd refused
   cut (Command fault) t h p width column old new wide same_width pic (size, inside, strip, ts, frame, part) =
       (area (with_row s Enabled p.cells (Some column)) h, part.front, part.rest, part.grown, inr (drawn p column ts wide size (fits p width column h same_width size pic) refl part.split frame))

@@ -22,6 +22,14 @@ pub mod Spares
 pub mod Skips
 pub mod Frames
 pub mod Written
+pub mod RowSteps
 pub mod Rows
 pub mod RowFrames
 pub mod NextFrames
+pub mod CellRows
+pub mod JoinedRows
+pub mod Standing
+pub mod Growing
+pub mod BlockFrames
+pub mod Visiting
+pub mod BlockViews

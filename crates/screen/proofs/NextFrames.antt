@@ -7,7 +7,7 @@ use Rattle.crossterm_command.specs.declared.color_output.ColorOutput.TheVariants
 use Rattle.crossterm_style.specs.Looks.{plain}
 use Rattle.crossterm.specs.Functions.{AppendsReading}
 use Rattle.screen.specs.declared.faults.DrawFault.{DrawFault}
-use Rattle.screen.specs.declared.faults.DrawFault.TheVariants.{Size, Cursor, Command}
+use Rattle.screen.specs.declared.faults.DrawFault.TheVariants.{Size, Cursor, Memory, Command}
 use Rattle.screen.specs.declared.starts.Start.TheVariants as start
 use Rattle.screen.specs.declared.strokes.Stroke.{Stroke}
 use Rattle.screen.specs.Buffers.{Picture}
@@ -176,6 +176,7 @@ next_not_drawn Cursor v w left after cursor s t colors p from column old new h e
   sym f ∙ ap (λ l. strip_of w l) by ∙ ap (λ u. strip_of u left) same ∙ is,
   none,
 )
+next_not_drawn Memory v w left after cursor s t colors p from column old new h e is f by lt k l c refused = absurd refused
 next_not_drawn (Command fault) v w left after cursor s t colors p from column old new h e is f by lt k l c (size, fits, gone, strokes, fit, plan, front) = (
   one_row v s p e size,
   subst (ColumnFits s) (sym c) (column_fits v s (Some column) e fits),
@@ -197,6 +198,7 @@ pub refused_as : (fault : DrawFault) (s t : StripView) (p : Picture) (cursor : O
     → RowNotDrawn fault s t p cursor F old new → RowNotDrawn fault s t p cursor G old new
 refused_as Size s t p cursor F G old new to r = r
 refused_as Cursor s t p cursor F G old new to r = r
+refused_as Memory s t p cursor F G old new to r = r
 refused_as (Command fault) s t p cursor F G old new to (one, fits, gone, ts, frame, front) = (one, fits, gone, ts, to ts frame, front)
 
 -- The same for a frame that is drawn.

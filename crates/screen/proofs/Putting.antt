@@ -11,7 +11,7 @@ use Rattle.crossterm_command.proofs.Readings.{text_joined}
 use Rattle.crossterm_command.proofs.Rows.{front_of_first, front_of_second}
 use Rattle.screen.specs.declared.pens.Pen.{Pen}
 use Rattle.screen.specs.declared.strokes.Stroke.{Stroke}
-use Rattle.screen.specs.inside.Pens.{Breaks, Ends, PassesOn, PutsStrokes}
+use Rattle.screen.specs.inside.Pens.{Breaks, Ends, PassesOn, PutsStrokes, PutsText}
 use Rattle.screen.specs.inside.Strokes.{written, written_of}
 
 -- ---- texts
@@ -19,11 +19,11 @@ use Rattle.screen.specs.inside.Strokes.{written, written_of}
 abbrev Known : Type 0
 Known = Option (List ℕ)
 
-passes_none : (u : List ℕ) (f : Option CommandFault) (a : Known) → PassesOn u f [] a a u f
+pub passes_none : (u : List ℕ) (f : Option CommandFault) (a : Known) → PassesOn u f [] a a u f
 passes_none u None a = ([], append-nil u, Appends-nil a)
 passes_none u (Some e) a = refl
 
-passes_both : (u v w : List ℕ) (f g h : Option CommandFault) (s t : List ℕ) (a b c : Known) → PassesOn u f s a b v g → PassesOn v g t b c w h → PassesOn u f (s ++ t) a c w h
+pub passes_both : (u v w : List ℕ) (f g h : Option CommandFault) (s t : List ℕ) (a b c : Known) → PassesOn u f s a b v g → PassesOn v g t b c w h → PassesOn u f (s ++ t) a c w h
 passes_both u v w None None None s t a b c p q = (
   p.0 ++ q.0,
   sym (append_assoc u s t) ∙ ap (λ l. l ++ t) p.1 ∙ append_assoc p.0 v t ∙ ap (λ l. p.0 ++ l) q.1 ∙ sym (append_assoc p.0 q.0 w),
@@ -40,7 +40,7 @@ passes_both u v w (Some d) (Some e) None s t a b c p q = absurd q
 passes_both u v w (Some d) (Some e) (Some f) s t a b c p q = q ∙ p
 
 -- All was put from the beginning on, and the last of it was written.
-passes_whole : (u v : List ℕ) (f g : Option CommandFault) (text : List ℕ) (a b c : Known) → u ≡ [] → f ≡ None → PassesOn u f text a b v g → Ends v g b c → Appends a c text
+pub passes_whole : (u v : List ℕ) (f g : Option CommandFault) (text : List ℕ) (a b c : Known) → u ≡ [] → f ≡ None → PassesOn u f text a b v g → Ends v g b c → Appends a c text
 passes_whole u v (Some e) g text a b c n o p q = cc
 passes_whole u v None (Some e) text a b c n o p q = absurd q
 passes_whole u v None None text a b c n o p q =
@@ -48,7 +48,7 @@ passes_whole u v None None text a b c n o p q =
     subst (Appends a c) whole (Appends-trans a b c p.0 v p.2 q)
 
 -- All was put from the beginning on, and there was a fault.
-passes_front : (u v : List ℕ) (f g : Option CommandFault) (text : List ℕ) (a b c : Known) → u ≡ [] → f ≡ None → PassesOn u f text a b v g → Breaks v g b c → AppendsFront a c text
+pub passes_front : (u v : List ℕ) (f g : Option CommandFault) (text : List ℕ) (a b c : Known) → u ≡ [] → f ≡ None → PassesOn u f text a b v g → Breaks v g b c → AppendsFront a c text
 passes_front u v (Some e) g text a b c n o p q = cc
 passes_front u v None (Some e) text a b c n o p q =
     subst (λ k. AppendsFront a k text) (sym q) (subst (AppendsFront a b) (ap (λ l. l ++ text) n) p)
@@ -94,18 +94,30 @@ puts_front in_row colors strokes a b c p q i e n o s t =
     (subst (λ k. AppendsFront a c (text_of (written_of p.in_row k strokes))) e
     (passes_front p.waiting.bytes q.waiting.bytes p.fault q.fault (text_of (written_of p.in_row p.colors strokes)) a b c n o s.2 t))
 
--- A stroke's text waits behind the others.
-pub waits : (s : Stroke) (p q : Pen) (a : Known) → p.fault ≡ None → q.colors ≡ p.colors → q.in_row ≡ p.in_row → q.fault ≡ None → q.waiting.bytes ≡ p.waiting.bytes ++ text_of (written p.in_row p.colors s)
-    → PutsStrokes (s ∷ []) a p a q
-waits s p q a f c i g w = (c, i, steps p.fault q.fault f g)
-  where
-    text : List ℕ
-    text = text_of (written_of p.in_row p.colors (s ∷ []))
+-- ---- a command
 
-    same : text ≡ text_of (written p.in_row p.colors s)
-    same = ap text_of (append-nil (written p.in_row p.colors s))
+-- A text waits behind the others.
+waits_behind : (text u v : List ℕ) (f g : Option CommandFault) (a : Known) → f ≡ None → g ≡ None → v ≡ u ++ text → PassesOn u f text a a v g
+waits_behind text u v None None a d h w = ([], sym w, Appends-nil a)
+waits_behind text u v None (Some x) a d h w = cc
+waits_behind text u v (Some x) g a d h w = cc
 
-    steps : (f g : Option CommandFault) → f ≡ None → g ≡ None → PassesOn p.waiting.bytes f text a a q.waiting.bytes g
-    steps None None d h = ([], ap (λ l. p.waiting.bytes ++ l) same ∙ sym w, Appends-nil a)
-    steps None (Some x) d h = cc
-    steps (Some x) g d h = cc
+pub text_waits : (text : List ℕ) (p q : Pen) (a : Known) → p.fault ≡ None → q.colors ≡ p.colors → q.in_row ≡ p.in_row → q.fault ≡ None → q.waiting.bytes ≡ p.waiting.bytes ++ text → PutsText text a p a q
+text_waits text p q a f c i g w = (c, i, waits_behind text p.waiting.bytes q.waiting.bytes p.fault q.fault a f g w)
+
+-- Nothing is put behind a fault.
+pub text_lost : (text : List ℕ) (p : Pen) (e : CommandFault) (a : Known) → p.fault ≡ Some e → PutsText text a p a p
+text_lost text p e a is = (refl, refl, subst (λ f. PassesOn p.waiting.bytes f text a a p.waiting.bytes f) (sym is) refl)
+
+-- A text has no room.
+pub text_refused : (text : List ℕ) (p q : Pen) (e : CommandFault) (a : Known) → p.fault ≡ None → q.colors ≡ p.colors → q.in_row ≡ p.in_row → q.fault ≡ Some e → PutsText text a p a q
+text_refused text p q e a is colors in_row fault = (
+  colors,
+  in_row,
+  subst (λ f. PassesOn p.waiting.bytes f text a a q.waiting.bytes q.fault) (sym is)
+      (subst (λ f. PassesOn p.waiting.bytes None text a a q.waiting.bytes f) (sym fault) (record { front = []; rest = p.waiting.bytes ++ text; split = refl; grown = Appends-nil a })),
+)
+
+-- A stroke's text is the text of its tokens.
+pub stroke_text : (s : Stroke) (a b : Known) (p q : Pen) → PutsText (text_of (written p.in_row p.colors s)) a p b q → PutsStrokes (s ∷ []) a p b q
+stroke_text s a b p q puts = subst (λ ts. PutsText (text_of ts) a p b q) (sym (append-nil (written p.in_row p.colors s))) puts

@@ -1,12 +1,14 @@
 -- A frame in a row.
-use Rattle.std.proofs.Common.{◌≡◌, ◌&&◌, ◌^◌, Result, Ok, Err, IfErr, OnOk, inl, inr, nat_le, Option, Some, None, codes, flat_map, ℕ, zero, suc, ◌+◌, ◌-◌, ◌*◌, ◌%◌, ◌<◌, Bool, true, false, cond, List, [], ◌∷◌, ◌++◌, refl, sym, ap, ◌∙◌, subst, arith, length, map, take, drop, replicate, append_assoc, append-nil}
+use Rattle.std.proofs.Common.{◌≡◌, ◌==◌, ◌≤◌, ◌⊎◌, ◌&&◌, ◌^◌, Result, Ok, Err, IfErr, OnOk, inl, inr, nat_le, Option, Some, None, codes, flat_map, ℕ, zero, suc, ◌+◌, ◌-◌, ◌*◌, ◌%◌, ◌<◌, Bool, true, false, cond, List, [], ◌∷◌, ◌++◌, refl, sym, ap, ◌∙◌, subst, arith, length, map, take, drop, replicate, append_assoc, append-nil}
 use Rattle.std.specs.Bool.{⊤}
 use Rattle.std.specs.List.{AllByRecursion}
+use Rattle.std.proofs.lemmas.Bool.Decides.{nat_tests}
 use Rattle.std.proofs.lemmas.Fmt.{decimal_digit}
 use Rattle.std.proofs.lemmas.List.Concat.{flat_map-append}
 use Rattle.std.proofs.lemmas.List.{drop_all, length-append, length-map, length-replicate, length-take-le, take_at}
+use Rattle.unicode_width.specs.Width.{char_width}
 use Rattle.crossterm_command.specs.Tokens.{Token}
-use Rattle.crossterm_command.specs.Tokens.Token.{Csi}
+use Rattle.crossterm_command.specs.Tokens.Token.{Char, Csi}
 use Rattle.crossterm_command.specs.declared.color_output.ColorOutput.{ColorOutput}
 use Rattle.crossterm_command.proofs.Readings.{all_joined}
 use Rattle.crossterm_style.specs.Looks.{plain}
@@ -15,21 +17,23 @@ use Rattle.crossterm.specs.Functions.{AppendsReading}
 use Rattle.crossterm.specs.Sequences.{clear}
 use Rattle.crossterm.specs.declared.terminal.ClearType.TheVariants.{All}
 use Rattle.screen.specs.declared.faults.DrawFault.{DrawFault}
-use Rattle.screen.specs.declared.faults.DrawFault.TheVariants.{Size, Cursor, Command}
+use Rattle.screen.specs.declared.faults.DrawFault.TheVariants.{Size, Cursor, Memory, Command}
 use Rattle.screen.specs.declared.starts.Start.{Start}
 use Rattle.screen.specs.declared.starts.Start.TheVariants as start
 use Rattle.screen.specs.declared.strokes.Stroke.{Stroke}
 use Rattle.screen.specs.declared.strokes.Stroke.TheVariants as stroke
 use Rattle.screen.specs.Buffers.{Picture}
 use Rattle.screen.specs.Cells.{cell_look}
-use Rattle.screen.specs.Drawings.{CursorFits, HasCursor, IsFrame, IsSameSize, MayShow, Shows, ShowsDrawn, forgotten, knows_cells}
-use Rattle.screen.specs.Grids.{Grid, Square, begun, blank_square, move_cursor, overwritten, place_after, place_beside, run}
+use Rattle.screen.specs.Drawings.{CursorFits, HasCursor, IsFrame, IsSameSize, MayShow, Shows, ShowsDrawn, knows_cells}
+use Rattle.screen.specs.Grids.{Grid, Square, begun, blank_square, move_cursor, overwritten, place_after, place_beside, run, takes_one, takes_two}
+use Rattle.screen.specs.Marks.{AreMarks}
 use Rattle.screen.specs.Screens.{Drawn, View}
 use Rattle.screen.specs.Strips.{ColumnFits, HasColumn, IsOneRow, IsRowFrame, LiesIn, RowNotDrawn, ShowsLast, ShowsRow, StripView, TurnsRow, as_screen, in_first_row, in_row, second_parameter, without_row}
 use Rattle.screen.specs.inside.Leaving.{left_by}
 use Rattle.screen.specs.inside.Scans.{NotWritten, start_by}
 use Rattle.screen.specs.inside.Strokes.{AreFitting, IsFitting, color_tokens, first_strokes, tokens, tokens_of, written, written_of}
-use Rattle.screen.proofs.Rows.{Embeds, IsFollowing, Simulates, overwritten_within, row_start, tokens_in_row}
+use Rattle.screen.proofs.Marking.{mark_is_high}
+use Rattle.screen.proofs.Rows.{Embeds, IsFollowing, IsInLine, Simulates, overwritten_within, row_start, tokens_in_row}
 use Rattle.screen.proofs.Runs.{le_true, place_parts, plain_set, run_then, runs_then}
 use Rattle.screen.proofs.Spares.{chars_all, color_all, style_all}
 
@@ -48,7 +52,7 @@ blanks_joined (x ∷ xs) n =
 -- ---- the erasure
 
 -- The cells of a row that are all overwritten.
-all_overwritten : (row others : List Square) → length others ≡ length row → overwritten row 0 others ≡ others
+pub all_overwritten : (row others : List Square) → length others ≡ length row → overwritten row 0 others ≡ others
 all_overwritten row others e =
     let none : drop (0 + length others) row ≡ [] = drop_all (0 + length others) row (omega (arith, e)) in
     ap (λ l. others ++ begun l) none ∙ append-nil others
@@ -207,6 +211,37 @@ known_start width above row below g (Some d) colors k lies shows = known_embeds 
 
 -- ---- strokes in a row
 
+return_takes_no_cell : (takes_one 0x0D ≡ false) × (takes_two 0x0D ≡ false)
+unfolding char_width
+return_takes_no_cell = (refl, refl)
+
+feed_takes_no_cell : (takes_one 0x0A ≡ false) × (takes_two 0x0A ≡ false)
+unfolding char_width
+feed_takes_no_cell = (refl, refl)
+
+-- A character that takes cells is another than one that takes none.
+other_than : (k c : ℕ) → (takes_one k ≡ false) × (takes_two k ≡ false) → (takes_one c ≡ true) ⊎ (takes_two c ≡ true) → (c == k) ≡ false
+other_than k c none takes = by_test (c == k) refl
+  where
+    apart : (takes_one c ≡ true) ⊎ (takes_two c ≡ true) → c ≡ k → ⊥
+    apart (inl f) e = let no : true ≡ false = sym f ∙ ap takes_one e ∙ none.0 in cc
+    apart (inr f) e = let no : true ≡ false = sym f ∙ ap takes_two e ∙ none.1 in cc
+
+    by_test : (b : Bool) → (c == k) ≡ b → b ≡ false
+    by_test false e = refl
+    by_test true e = let same : c ≡ k = grind (arith, nat_tests) in absurd (apart takes same)
+
+-- A character that is printed isn't CR or LF.
+printed_in_line : (c : ℕ) → (takes_one c ≡ true) ⊎ (takes_two c ≡ true) → IsInLine c
+printed_in_line c takes = (other_than 0x0D c return_takes_no_cell takes, other_than 0x0A c feed_takes_no_cell takes)
+
+-- Nor is a mark.
+marks_in_line : (last : ℕ) (marks : List ℕ) → AreMarks last marks → AllByRecursion IsFollowing (map Char marks)
+marks_in_line last [] a = tt
+marks_in_line last (m ∷ marks) a =
+    let high : 0xA0 ≤ m = mark_is_high last m a.1 in
+    ((grind (arith, nat_tests), grind (arith, nat_tests)), marks_in_line m marks a.2)
+
 following_each : (colors : ColorOutput) (s : Stroke) → IsFitting s → AllByRecursion IsFollowing (tokens colors s)
 following_each colors stroke.Begin f = (inr (inr (inl refl)), tt)
 following_each colors stroke.End f = (inr (inr (inr refl)), tt)
@@ -214,7 +249,7 @@ following_each colors stroke.Erase f = absurd f
 following_each colors (stroke.Move column row) f = (inl refl, tt)
 following_each colors (stroke.Style s) f = style_all IsFollowing (λ text. inr (inl refl)) colors s
 following_each colors (stroke.Colors change) f = color_all IsFollowing (λ text. inr (inl refl)) colors change
-following_each colors (stroke.Print c marks) f = (tt, chars_all IsFollowing (λ m. tt) marks)
+following_each colors (stroke.Print c marks) f = (printed_in_line c f.0.2, marks_in_line c marks f.1)
 following_each colors stroke.Show f = (inr (inr (inl refl)), tt)
 following_each colors stroke.Hide f = (inr (inr (inr refl)), tt)
 
@@ -369,6 +404,7 @@ row_not_drawn Size v w left after s t colors p cursor old new e is f by (apart, 
     (λ size. apart (same_size v s p e size), sym f ∙ ap (λ l. strip_of w l) by ∙ ap (λ u. strip_of u left) same ∙ is, none)
 row_not_drawn Cursor v w left after s t colors p cursor old new e is f by (size, apart, same, none) =
     (one_row v s p e size, λ fits. apart (cursor_fits v s cursor e fits), sym f ∙ ap (λ l. strip_of w l) by ∙ ap (λ u. strip_of u left) same ∙ is, none)
+row_not_drawn Memory v w left after s t colors p cursor old new e is f by refused = absurd refused
 row_not_drawn (Command fault) v w left after s t colors p cursor old new e is f by (size, fits, gone, strokes, fit, frame, front) = (
   one_row v s p e size,
   column_fits v s cursor e fits,

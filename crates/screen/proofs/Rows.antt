@@ -11,20 +11,20 @@ use Rattle.std.specs.List.{AllByRecursion, slice_split}
 use Rattle.crossterm_command.specs.Tokens.{Token}
 use Rattle.crossterm_command.specs.Tokens.Token.{Char, Csi, Osc, Private}
 use Rattle.crossterm_style.specs.Looks.{Style, sgr}
-use Rattle.screen.specs.Grids.{Grid, Square, begun, ended, is_last, last_shown, mark_at, first_marked, mode, move_cursor, overwritten, parameter_number, place, place_after, place_beside, place_by, print_at, print_one, print_two, right_of, run, step, takes_one, takes_two}
+use Rattle.screen.specs.Grids.{Grid, Square, begun, control_at, ended, is_last, last_shown, line_feed, mark_at, first_marked, mode, move_cursor, overwritten, parameter_number, place, place_after, place_beside, place_by, print_at, print_one, print_two, right_of, run, step, takes_one, takes_two}
 use Rattle.screen.specs.Grids.Square.{Unknown, Whole, First, Second}
 use Rattle.screen.specs.Marks.{is_joined, is_mark_of, takes_none}
 use Rattle.screen.specs.Strips.{in_row, second_parameter}
 use Rattle.screen.proofs.Runs.{ended_length, le_true, run_then}
 use Rattle.screen.proofs.Squares.{begun_length}
 
-ended_behind : (above xs : List Square) → ended above ≡ above → ended (above ++ xs) ≡ above ++ ended xs
+pub ended_behind : (above xs : List Square) → ended above ≡ above → ended (above ++ xs) ≡ above ++ ended xs
 ended_behind [] xs e = refl
 ended_behind (x ∷ []) [] e = e
 ended_behind (x ∷ []) (y ∷ xs) e = refl
 ended_behind (x ∷ z ∷ above) xs e = ap (λ l. x ∷ l) (ended_behind (z ∷ above) xs (ap (drop 1) e))
 
-begun_before : (xs rest : List Square) → begun rest ≡ rest → begun (xs ++ rest) ≡ begun xs ++ rest
+pub begun_before : (xs rest : List Square) → begun rest ≡ rest → begun (xs ++ rest) ≡ begun xs ++ rest
 begun_before [] rest e = e
 begun_before (x ∷ xs) rest e = refl
 
@@ -135,27 +135,40 @@ put_in_row above rest others small big at last left right e is ends lt room =
       mark = λ c y. let same : at ≡ c = cc in (subst (λ n. n < small.width) same room, ap (λ n. Some (length above + n)) same);
     }
 
-printed_in_row : (above rest : List Square) (c : ℕ) (small big : Grid) (at : ℕ) → ended above ≡ above → begun rest ≡ rest → (e : Embeds above rest small big) → at < small.width → at ≡ e.column
+-- A character that isn't CR or LF.
+abbrev pub IsInLine : ℕ → Type 0
+IsInLine c = ((c == 0x0D) ≡ false) × ((c == 0x0A) ≡ false)
+
+no_control : (at c : ℕ) (g : Grid) → IsInLine c → control_at at c g ≡ None
+no_control at c g f =
+    ap (λ b. cond b (Some (record g { cursor = Some (at - at % g.width); printed = None })) (cond (c == 0x0A) (line_feed at (record g { printed = None })) None)) f.0
+    ∙ ap (λ b. cond b (line_feed at (record g { printed = None })) None) f.1
+
+printed_in_row : (above rest : List Square) (c : ℕ) (small big : Grid) (at : ℕ) → ended above ≡ above → begun rest ≡ rest → IsInLine c → (e : Embeds above rest small big) → at < small.width → at ≡ e.column
     → Simulates above rest big (print_at (Some at) c small) (elim (print_at (Some (length above + at)) c big) [ None ↦ None | Some h ↦ Some h ])
-printed_in_row above rest c small big at left right e lt is =
-    elim (takes_one c) as (λ b. Simulates above rest big (cond b (Some (print_one at c small)) (cond (takes_two c && not (is_last small.width at)) (Some (print_two at c small)) None))
-    (elim (cond b (Some (print_one (length above + at) c big)) (cond (takes_two c && not (is_last big.width (length above + at))) (Some (print_two (length above + at) c big)) None)) [ None ↦ None | Some h ↦ Some h ])) [
+printed_in_row above rest c small big at left right f e lt is =
+    elim (takes_one c) as (λ b. Simulates above rest big (cond b (Some (print_one at c small)) (cond (takes_two c && not (is_last small.width at)) (Some (print_two at c small)) (control_at at c small)))
+    (elim (cond b (Some (print_one (length above + at) c big)) (cond (takes_two c && not (is_last big.width (length above + at))) (Some (print_two (length above + at) c big)) (control_at (length above + at) c big)))
+    [ None ↦ None | Some h ↦ Some h ])) [
       | true ↦ (print_one (length above + at) c big, refl, one, refl, refl)
       | false ↦
-          elim (takes_two c) as (λ b. Simulates above rest big (cond (b && not (is_last small.width at)) (Some (print_two at c small)) None)
-          (elim (cond (b && not (is_last big.width (length above + at))) (Some (print_two (length above + at) c big)) None) [ None ↦ None | Some h ↦ Some h ])) [
+          elim (takes_two c) as (λ b. Simulates above rest big (cond (b && not (is_last small.width at)) (Some (print_two at c small)) (control_at at c small))
+          (elim (cond (b && not (is_last big.width (length above + at))) (Some (print_two (length above + at) c big)) (control_at (length above + at) c big)) [ None ↦ None | Some h ↦ Some h ])) [
             | true ↦
-                elim (is_last small.width at) as (λ l. is_last small.width at ≡ l → Simulates above rest big (cond (not l) (Some (print_two at c small)) None)
-                (elim (cond (not (is_last big.width (length above + at))) (Some (print_two (length above + at) c big)) None) [ None ↦ None | Some h ↦ Some h ])) [
-                  | true ↦ λ y. tt
+                elim (is_last small.width at) as (λ l. is_last small.width at ≡ l → Simulates above rest big (cond (not l) (Some (print_two at c small)) (control_at at c small))
+                (elim (cond (not (is_last big.width (length above + at))) (Some (print_two (length above + at) c big)) (control_at (length above + at) c big)) [ None ↦ None | Some h ↦ Some h ])) [
+                  | true ↦ λ y. nothing (cond (not (is_last big.width (length above + at))) (Some (print_two (length above + at) c big)) (control_at (length above + at) c big))
                   | false ↦ λ y.
-                      subst (λ l. Simulates above rest big (Some (print_two at c small)) (elim (cond (not l) (Some (print_two (length above + at) c big)) None) [ None ↦ None | Some h ↦ Some h ])) (sym (inside y))
-                      (print_two (length above + at) c big, refl, two (stays small.width at lt y), refl, refl)
+                      subst (λ l. Simulates above rest big (Some (print_two at c small)) (elim (cond (not l) (Some (print_two (length above + at) c big)) (control_at (length above + at) c big)) [ None ↦ None | Some h ↦ Some h ]))
+                      (sym (inside y)) (print_two (length above + at) c big, refl, two (stays small.width at lt y), refl, refl)
                 ] refl
-            | false ↦ tt
+            | false ↦ nothing (control_at (length above + at) c big)
           ]
     ]
   where
+    nothing : (o : Option Grid) → Simulates above rest big (control_at at c small) (elim o [ None ↦ None | Some h ↦ Some h ])
+    nothing o = subst (λ q. Simulates above rest big q (elim o [ None ↦ None | Some h ↦ Some h ])) (sym (no_control at c small f)) tt
+
     one : Embeds above rest (print_one at c small) (print_one (length above + at) c big)
     one =
         subst (λ s. Embeds above rest (print_one at c small) (record big { cells = overwritten big.cells (length above + at) (Whole (c ∷ []) s ∷ []); cursor = right_of big.width (length above + at); printed = Some (length above + at) })) (sym e.style)
@@ -171,9 +184,9 @@ printed_in_row above rest c small big at left right e lt is =
     inside : is_last small.width at ≡ false → is_last big.width (length above + at) ≡ false
     inside y = not_last e.rows.0 big.width (length above + at) at (ap (λ n. n + at) e.rows.1) (omega (arith, stays small.width at lt y, e.narrower))
 
-column_printed : (above rest : List Square) (c : ℕ) (small big : Grid) → ended above ≡ above → begun rest ≡ rest → Embeds above rest small big
+column_printed : (above rest : List Square) (c : ℕ) (small big : Grid) → ended above ≡ above → begun rest ≡ rest → IsInLine c → Embeds above rest small big
     → Simulates above rest big (print_at small.cursor c small) (elim (print_at big.cursor c big) [ None ↦ None | Some h ↦ Some h ])
-column_printed above rest c small big left right e = by_place small.cursor refl
+column_printed above rest c small big left right f e = by_place small.cursor refl
   where
     by_place : (o : Option ℕ) → small.cursor ≡ o → Simulates above rest big (print_at o c small) (elim (print_at big.cursor c big) [ None ↦ None | Some h ↦ Some h ])
     by_place None w = tt
@@ -181,7 +194,7 @@ column_printed above rest c small big left right e = by_place small.cursor refl
         let known : (at < small.width) × (at ≡ e.column) = e.place at w in
         let there : big.cursor ≡ Some (length above + at) = e.cursor ∙ ap (λ n. Some (length above + n)) (sym known.1) in
         subst (λ o. Simulates above rest big (print_at (Some at) c small) (elim (print_at o c big) [ None ↦ None | Some h ↦ Some h ])) (sym there)
-        (printed_in_row above rest c small big at left right e known.0 known.1)
+        (printed_in_row above rest c small big at left right f e known.0 known.1)
 
 -- ---- a mark
 
@@ -254,9 +267,9 @@ mark_in_row above rest c small big e = by_place small.printed refl
     by_place None w = tt
     by_place (Some at) w = marked_in_row above rest c small big at e w
 
-char_in_row : (above rest : List Square) (c : ℕ) (small big : Grid) → ended above ≡ above → begun rest ≡ rest → Embeds above rest small big
+char_in_row : (above rest : List Square) (c : ℕ) (small big : Grid) → ended above ≡ above → begun rest ≡ rest → IsInLine c → Embeds above rest small big
     → Simulates above rest big (step (Char c) small) (run (Char c ∷ []) big)
-char_in_row above rest c small big left right e =
+char_in_row above rest c small big left right f e =
     elim (is_joined c) as (λ j. Simulates above rest big (cond j None (cond (takes_none c) (mark_at small.printed c small) (print_at small.cursor c small)))
     (elim (cond j None (cond (takes_none c) (mark_at big.printed c big) (print_at big.cursor c big))) [ None ↦ None | Some h ↦ Some h ])) [
       | true ↦ tt
@@ -264,7 +277,7 @@ char_in_row above rest c small big left right e =
           elim (takes_none c) as (λ n. Simulates above rest big (cond n (mark_at small.printed c small) (print_at small.cursor c small))
           (elim (cond n (mark_at big.printed c big) (print_at big.cursor c big)) [ None ↦ None | Some h ↦ Some h ])) [
             | true ↦ mark_in_row above rest c small big e
-            | false ↦ column_printed above rest c small big left right e
+            | false ↦ column_printed above rest c small big left right f e
           ]
     ]
 
@@ -385,9 +398,9 @@ mode_in_row above rest text on small big e =
 
 -- ---- tokens
 
--- A character, CUP, SGR, SM or RM.
+-- A character other than CR and LF, CUP, SGR, SM or RM.
 abbrev pub IsFollowing : Token → Type 0
-IsFollowing (Char c) = ⊤
+IsFollowing (Char c) = IsInLine c
 IsFollowing (Csi text [] final) = (final ≡ 0x48) ⊎ ((final ≡ 0x6D) ⊎ ((final ≡ 0x68) ⊎ (final ≡ 0x6C)))
 IsFollowing t = ⊥
 
@@ -409,7 +422,7 @@ ended_marks above rest small big e = record {
 }
 
 token_in_row : (above rest : List Square) (t : Token) (small big : Grid) → ended above ≡ above → begun rest ≡ rest → IsFollowing t → Embeds above rest small big → Simulates above rest big (step t small) (run (in_row t) big)
-token_in_row above rest (Char c) small big left right f e = char_in_row above rest c small big left right e
+token_in_row above rest (Char c) small big left right f e = char_in_row above rest c small big left right f e
 token_in_row above rest (Csi text [] final) small big left right (inl f) e =
     subst (λ k. Simulates above rest big (step (Csi text [] k) small) (run (in_row (Csi text [] k)) big)) (sym f)
     (moved_in_row above rest (slice_split (λ b. b == 59) text) (record small { printed = None }) (record big { printed = None }) (ended_marks above rest small big e))

@@ -35,7 +35,7 @@ use Rattle.screen.specs.declared.settings.Setting.TheVariants as setting
 use Rattle.screen.specs.declared.strokes.Stroke.{Stroke}
 use Rattle.screen.specs.declared.strokes.Stroke.TheVariants as stroke
 use Rattle.screen.specs.Cells.{Cell, FitsCell, IsPrinted, is_wide, last_place, look, shown_text}
-use Rattle.screen.specs.Grids.{Grid, Square, begun, char_effect, ended, is_last, last_character, last_shown, mark_at, first_marked, move_cursor, parameter_number, overwritten, place, place_by, print_at, print_one, print_two, right_of, run, step, takes_one, takes_two, with_mark}
+use Rattle.screen.specs.Grids.{Grid, Square, begun, char_effect, control_at, ended, is_last, last_character, last_shown, mark_at, first_marked, move_cursor, parameter_number, overwritten, place, place_by, print_at, print_one, print_two, right_of, run, step, takes_one, takes_two, with_mark}
 use Rattle.screen.specs.Grids.Square.{Unknown, Whole, First, Second}
 use Rattle.screen.specs.Marks.{AreMarks, is_joined, is_kept_with, is_mark_of, is_width, takes_none}
 use Rattle.screen.specs.inside.Settings.{HasByteColors, Sets}
@@ -77,7 +77,7 @@ digits_pass : (ds : List ℕ) → AllByRecursion IsDigit ds → list_all is_deci
 digits_pass [] a = refl
 digits_pass (d ∷ ds) a = rw (digit_passes d a.0, digits_pass ds a.1) refl
 
-number_read : (n : ℕ) → n < 2 ^ 64 → parameter_number (decimal n) ≡ Some n
+pub number_read : (n : ℕ) → n < 2 ^ 64 → parameter_number (decimal n) ≡ Some n
 number_read n h =
     let value : digits_value 10 (decimal n) ≡ n = (decimal_is_IsNumeral n h).1 in
     rw (digits_pass (decimal n) (decimal_digits n h), value) refl
@@ -198,14 +198,14 @@ printed_by : (wide : Bool) (colors : ColorOutput) (c : Cell) (at : ℕ) (g : Gri
     → g.cursor ≡ Some at → g.style ≡ look colors c.style → print_at g.cursor c.symbol g ≡ Some (bare colors g at c)
 printed_by false colors c at g w takes room cursor style =
     ap (λ o. print_at o c.symbol g) cursor
-    ∙ ap (λ b. cond b (Some (print_one at c.symbol g)) (cond (takes_two c.symbol && not (is_last g.width at)) (Some (print_two at c.symbol g)) None)) (one_of c.symbol takes w)
+    ∙ ap (λ b. cond b (Some (print_one at c.symbol g)) (cond (takes_two c.symbol && not (is_last g.width at)) (Some (print_two at c.symbol g)) (control_at at c.symbol g))) (one_of c.symbol takes w)
     ∙ ap (λ s. Some (record g { cells = overwritten g.cells at (Whole (c.symbol ∷ []) s ∷ []); cursor = right_of g.width at; style = s; printed = Some at })) style
     ∙ ap (λ b. Some (record g { cells = overwritten g.cells at (texted b (c.symbol ∷ []) (look colors c.style)); cursor = right_of g.width (cond b (at + 1) at); style = look colors c.style; printed = Some at })) (sym w)
 printed_by true colors c at g w takes room cursor style =
     ap (λ o. print_at o c.symbol g) cursor
-    ∙ ap (λ b. cond b (Some (print_one at c.symbol g)) (cond (takes_two c.symbol && not (is_last g.width at)) (Some (print_two at c.symbol g)) None)) (by_two (char_width false c.symbol) w)
-    ∙ ap (λ b. cond (b && not (is_last g.width at)) (Some (print_two at c.symbol g)) None) w
-    ∙ ap (λ b. cond (not b) (Some (print_two at c.symbol g)) None) (room refl)
+    ∙ ap (λ b. cond b (Some (print_one at c.symbol g)) (cond (takes_two c.symbol && not (is_last g.width at)) (Some (print_two at c.symbol g)) (control_at at c.symbol g))) (by_two (char_width false c.symbol) w)
+    ∙ ap (λ b. cond (b && not (is_last g.width at)) (Some (print_two at c.symbol g)) (control_at at c.symbol g)) w
+    ∙ ap (λ b. cond (not b) (Some (print_two at c.symbol g)) (control_at at c.symbol g)) (room refl)
     ∙ ap (λ s. Some (record g { cells = overwritten g.cells at (First (c.symbol ∷ []) s ∷ Second ∷ []); cursor = right_of g.width (at + 1); style = s; printed = Some at })) style
     ∙ ap (λ b. Some (record g { cells = overwritten g.cells at (texted b (c.symbol ∷ []) (look colors c.style)); cursor = right_of g.width (cond b (at + 1) at); style = look colors c.style; printed = Some at })) (sym w)
 

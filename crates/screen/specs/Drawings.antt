@@ -1,7 +1,7 @@
 -- What a frame does to a terminal.
 use Rattle.std.specs.Prelude.{◌≡◌, ◌⊎◌, ⊤, IfSome, ℕ, ◌+◌, ◌*◌, ◌<◌, Bool, true, false, List, [], ◌∷◌, Option, Some, None, if◌then◌else◌, length, map, replicate}
 use Rattle.std.specs.declared.io.Error.{Error}
-use Rattle.std.specs.declared.io.ErrorKind.TheVariants.{InvalidInput}
+use Rattle.std.specs.declared.io.ErrorKind.TheVariants.{InvalidInput, OutOfMemory}
 use Rattle.std.specs.IoError.{error_kind}
 use Rattle.crossterm_command.specs.Faults as command
 use Rattle.crossterm_command.specs.Tokens.{Token, text_of}
@@ -11,7 +11,7 @@ use Rattle.crossterm_command.specs.declared.color_output.ColorOutput.{ColorOutpu
 use Rattle.crossterm_command.specs.declared.color_output.ColorOutput.TheVariants.{Enabled, Disabled}
 use Rattle.crossterm_style.specs.Looks.{plain}
 use Rattle.screen.specs.declared.faults.DrawFault.{DrawFault}
-use Rattle.screen.specs.declared.faults.DrawFault.TheVariants.{Size, Cursor, Command}
+use Rattle.screen.specs.declared.faults.DrawFault.TheVariants.{Size, Cursor, Memory, Command}
 use Rattle.screen.specs.Buffers.{Picture}
 use Rattle.screen.specs.Cells.{Cell, blank, cell_look}
 use Rattle.screen.specs.Grids.{Grid, run}
@@ -128,16 +128,19 @@ abbrev pub forgotten : View → View
 forgotten s = record s { drawn = None }
 
 -- Why a frame wasn't drawn. At a wrong size or cursor, nothing is written and the screen is unchanged.
--- After a fault of a command, the screen is forgotten, and a prefix of the frame's text was written.
+-- After a fault of a command, the screen is forgotten, and a prefix of the frame's text was written. No memory is taken.
 abbrev pub NotDrawn : DrawFault → View → View → ColorOutput → Picture → Option (ℕ × ℕ) → Option (List ℕ) → Option (List ℕ) → Type 0
 NotDrawn Size s t colors p cursor old new = (IsSameSize s p → ⊥) × (t ≡ s) × (new ≡ old)
 NotDrawn Cursor s t colors p cursor old new = IsSameSize s p × (CursorFits s cursor → ⊥) × (t ≡ s) × (new ≡ old)
+NotDrawn Memory s t colors p cursor old new = ⊥
 NotDrawn (Command fault) s t colors p cursor old new =
     IsSameSize s p × CursorFits s cursor × (t ≡ forgotten s)
     × (ts : List Token) × IsFrame s colors p cursor ts × AppendsFront old new (text_of ts)
 
--- The error that a fault becomes: the one of the command's fault, otherwise one of the kind `InvalidInput`.
+-- The error that a fault becomes: the one of the command's fault, or one of the kind `OutOfMemory` if memory was refused.
+-- Of any other fault the kind is `InvalidInput`.
 abbrev pub BecomesError : DrawFault → Error → Type 0
 BecomesError Size answer = error_kind answer ≡ InvalidInput
 BecomesError Cursor answer = error_kind answer ≡ InvalidInput
+BecomesError Memory answer = error_kind answer ≡ OutOfMemory
 BecomesError (Command fault) answer = command.Answers fault answer

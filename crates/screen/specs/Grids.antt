@@ -1,6 +1,6 @@
 -- A terminal's screen as a grid of cells, and what it does at each token that it reads. If terminals differ, nothing
 -- is claimed.
-use Rattle.std.specs.Prelude.{ℕ, ◌+◌, ◌-◌, ◌*◌, ◌%◌, ◌==◌, ◌&&◌, ◌||◌, not, nat_le, Bool, true, false, List, [], ◌∷◌, ◌++◌, Option, Some, None, bytes_eq, codes, if◌then◌else◌, drop, get_or, is_none, length, map, replicate, take}
+use Rattle.std.specs.Prelude.{ℕ, ◌+◌, ◌-◌, ◌*◌, ◌%◌, ◌==◌, ◌&&◌, ◌||◌, not, nat_le, nat_lt, Bool, true, false, List, [], ◌∷◌, ◌++◌, Option, Some, None, bytes_eq, codes, if◌then◌else◌, drop, get_or, is_none, length, map, replicate, take}
 use Rattle.std.specs.List.{list_all, slice_split}
 use Rattle.std.specs.Str.Parse.{digits_value}
 use Rattle.unicode_width.specs.Width.{char_width}
@@ -86,6 +86,34 @@ print_one at c g = record g { cells = overwritten g.cells at (Whole (c ∷ []) g
 abbrev pub print_two : ℕ → ℕ → Grid → Grid
 print_two at c g = record g { cells = overwritten g.cells at (First (c ∷ []) g.style ∷ Second ∷ []); cursor = right_of g.width (at + 1); printed = Some at }
 
+-- Whether a style has no colour and no attribute.
+abbrev pub is_plain : Style → Bool
+is_plain s =
+    is_none s.foreground && is_none s.background && is_none s.underline_color && is_none s.underline && is_none s.blink
+    && not s.bold && not s.dim && not s.italic && not s.fraktur && not s.reverse
+    && not s.hidden && not s.crossed_out && not s.framed && not s.encircled && not s.overlined
+
+-- A space in the plain style.
+abbrev pub blank_square : Square
+blank_square = Whole (32 ∷ []) plain
+
+-- The grid after a line feed with the cursor at a place: the cursor goes to the row below. Below the last row there is
+-- none, and all rows move up in place of that. A blank row comes in below them if the plain style is set, otherwise the
+-- grid isn't known.
+abbrev pub line_feed : ℕ → Grid → Option Grid
+line_feed at g =
+    if nat_lt (at + g.width) (length g.cells) then Some (record g { cursor = Some (at + g.width) }) else (
+    if is_plain g.style then Some (record g { cells = drop g.width g.cells ++ replicate g.width blank_square }) else (
+    None))
+
+-- The grid after CR, which brings the cursor to the start of its row, or LF (ECMA-48, 8.3.15 and 8.3.74). Other control
+-- characters give `None`.
+abbrev pub control_at : ℕ → ℕ → Grid → Option Grid
+control_at at c g =
+    if c == 0x0D then Some (record g { cursor = Some (at - at % g.width); printed = None }) else (
+    if c == 0x0A then line_feed at (record g { printed = None }) else (
+    None))
+
 -- The grid after a character is printed at the cursor. `None` if the cursor's place or the result isn't known, as for
 -- a wide character in a row's last cell.
 abbrev pub print_at : Option ℕ → ℕ → Grid → Option Grid
@@ -93,7 +121,7 @@ print_at None c g = None
 print_at (Some at) c g =
     if takes_one c then Some (print_one at c g) else (
     if takes_two c && not (is_last g.width at) then Some (print_two at c g) else (
-    None))
+    control_at at c g))
 
 -- The last character of a text, or 0 if it is empty.
 abbrev pub last_character : List ℕ → ℕ
@@ -161,18 +189,17 @@ abbrev pub place_beside : Option ℕ → Option ℕ → Grid → Option ℕ
 place_beside (Some at) column g = place_after (at - at % g.width) column g
 place_beside None column g = None
 
+-- The place so many rows above another, at least one, or `None` if there aren't so many.
+abbrev pub place_above : Option ℕ → Option ℕ → Grid → Option ℕ
+place_above (Some at) (Some n) g = if nat_le 1 n && nat_le (n * g.width) at then Some (at - n * g.width) else None
+place_above at n g = None
+
+-- The place so many rows below another, at least one, or `None` if there aren't so many.
+abbrev pub place_below : Option ℕ → Option ℕ → Grid → Option ℕ
+place_below (Some at) (Some n) g = if nat_le 1 n && nat_lt (at + n * g.width) (length g.cells) then Some (at + n * g.width) else None
+place_below at n g = None
+
 -- ---- other control functions
-
--- Whether a style has no colour and no attribute.
-abbrev pub is_plain : Style → Bool
-is_plain s =
-    is_none s.foreground && is_none s.background && is_none s.underline_color && is_none s.underline && is_none s.blink
-    && not s.bold && not s.dim && not s.italic && not s.fraktur && not s.reverse
-    && not s.hidden && not s.crossed_out && not s.framed && not s.encircled && not s.overlined
-
--- A space in the plain style.
-abbrev pub blank_square : Square
-blank_square = Whole (32 ∷ []) plain
 
 -- ED with the parameter 2 makes every cell blank if the plain style is set. Other parameters and other styles give
 -- `None`.
@@ -199,7 +226,8 @@ mode text on g =
 
 -- ---- tokens
 
--- The grid after CUP, ED, SGR, SM, RM, CHA or EL, chosen by the final byte. Other control functions give `None`.
+-- The grid after CUP, ED, SGR, SM, RM, CHA, EL, CUU or CUD, chosen by the final byte. Other control functions give
+-- `None`.
 abbrev pub control_effect : List ℕ → ℕ → Grid → Option Grid
 control_effect text final g =
     if final == 0x48 then move_cursor (place_by (slice_split (λ b. b == 59) text) g) g else (
@@ -209,7 +237,9 @@ control_effect text final g =
     if final == 0x6C then mode text false g else (
     if final == 0x47 then move_cursor (place_beside g.cursor (parameter_number text) g) g else (
     if final == 0x4B then erase_right text g else (
-    None)))))))
+    if final == 0x41 then move_cursor (place_above g.cursor (parameter_number text) g) g else (
+    if final == 0x42 then move_cursor (place_below g.cursor (parameter_number text) g) g else (
+    None)))))))))
 
 -- The grid after a token, or `None` if it isn't known.
 abbrev pub step : Token → Grid → Option Grid

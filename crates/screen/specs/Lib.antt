@@ -14,4 +14,5 @@ pub mod Updates
 pub mod Drawings
 pub mod Screens
 pub mod Strips
+pub mod Blocks
 pub mod inside

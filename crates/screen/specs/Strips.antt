@@ -9,7 +9,7 @@ use Rattle.crossterm_command.specs.declared.color_output.ColorOutput.{ColorOutpu
 use Rattle.crossterm_style.specs.Looks.{plain}
 use Rattle.crossterm_style.specs.Styles.{no_style}
 use Rattle.screen.specs.declared.faults.DrawFault.{DrawFault}
-use Rattle.screen.specs.declared.faults.DrawFault.TheVariants.{Size, Cursor, Command}
+use Rattle.screen.specs.declared.faults.DrawFault.TheVariants.{Size, Cursor, Memory, Command}
 use Rattle.screen.specs.Buffers.{Picture}
 use Rattle.screen.specs.Cells.{Cell, blank, cell_look}
 use Rattle.screen.specs.Drawings.{DifferAt, IsFrame, cells_before, knows_cells, printed_count}
@@ -178,10 +178,12 @@ abbrev pub without_cursor : StripView → StripView
 without_cursor s = record s { left = None }
 
 -- Why a row wasn't drawn by a frame of these tokens. At a wrong size or cursor, nothing is written and the strip is
--- unchanged. After a fault of a command, the strip is forgotten, and a prefix of the frame's text was written.
+-- unchanged. After a fault of a command, the strip is forgotten, and a prefix of the frame's text was written. No
+-- memory is taken.
 abbrev pub RowNotDrawn : DrawFault → StripView → StripView → Picture → Option ℕ → (List Token → Type 0) → Option (List ℕ) → Option (List ℕ) → Type 0
 RowNotDrawn Size s t p cursor Frame old new = (IsOneRow s p → ⊥) × (t ≡ s) × (new ≡ old)
 RowNotDrawn Cursor s t p cursor Frame old new = IsOneRow s p × (ColumnFits s cursor → ⊥) × (t ≡ s) × (new ≡ old)
+RowNotDrawn Memory s t p cursor Frame old new = ⊥
 RowNotDrawn (Command fault) s t p cursor Frame old new =
     IsOneRow s p × ColumnFits s cursor × (t ≡ without_row s)
     × (ts : List Token) × Frame ts × AppendsFront old new (text_of ts)

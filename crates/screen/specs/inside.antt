@@ -4,8 +4,10 @@ pub mod Settings
 pub mod Strokes
 pub mod Bridges
 pub mod Scans
+pub mod BlockRows
 pub mod Pens
 pub mod Leaving
+pub mod Blocks
 pub mod Packed
 pub mod Marked
 pub mod FirstParts

@@ -48,15 +48,17 @@ impl CellFault {
     }
 }
 
-/// Why a frame isn't drawn. As an `io::Error`, `Command` is the error that its fault becomes, and the others have the kind `InvalidInput` and
-/// the same text.
+/// Why a frame isn't drawn. As an `io::Error`, `Command` is the error that its fault becomes, `Memory` has the kind `OutOfMemory`, and the others
+/// have the kind `InvalidInput` and the same text.
 #[derive(Debug, Drop, Error)]
 #[error("{}", self.words())]
 pub enum DrawFault {
-    /// The buffer has another size than the screen. Nothing was written.
+    /// The buffer has another size than the screen, or fewer rows than the block. Nothing was written.
     Size,
     /// The cursor's place is outside the screen. Nothing was written.
     Cursor,
+    /// Memory was refused for the rows of a block. Nothing was written.
+    Memory,
     /// The writer failed. A beginning of the frame was written, and nothing else.
     Command(CommandFault),
 }
@@ -67,6 +69,7 @@ impl DrawFault {
         match self {
             DrawFault::Size => "a buffer of another size than the screen",
             DrawFault::Cursor => "a cursor outside the screen",
+            DrawFault::Memory => "no memory for the rows of a block",
             DrawFault::Command(_) => "a frame that wasn't written whole",
         }
     }
@@ -84,12 +87,13 @@ impl From<CellFault> for io::Error {
 impl From<DrawFault> for io::Error {
     ghost from_gives = { BecomesError };
 
-    /// What a command's fault becomes, else an error of the kind `InvalidInput`, with the fault's text.
+    /// What a command's fault becomes, an error of the kind `OutOfMemory` for `Memory`, else one of the kind `InvalidInput`, with the fault's text.
     fn from(fault: DrawFault) -> io::Error {
         let words = fault.words();
         match fault {
             DrawFault::Size => io::Error::new(ErrorKind::InvalidInput, words),
             DrawFault::Cursor => io::Error::new(ErrorKind::InvalidInput, words),
+            DrawFault::Memory => io::Error::from(ErrorKind::OutOfMemory),
             DrawFault::Command(fault) => io::Error::from(fault),
         }
     }

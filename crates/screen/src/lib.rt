@@ -24,6 +24,11 @@
 //! shown in the column in which that left it, and the plain style is set. Such a frame has no move, no style and no other control function that
 //! it doesn't need, so that a letter or a blank that is typed at a line's end is one byte, and a frame without a change is empty.
 //!
+//! A `Block` is some rows of a terminal, from the one in which the cursor is at first: for a prompt, a menu or a bar that shows progress below what
+//! is there. It grows downward, and below the window's last row the terminal scrolls. The promise is for terminals with more columns than the block has
+//! and at least as many rows: from each grid in which the block's rows show what was drawn last, wherever they are, what `Block::draw` writes leads
+//! to one in which they show the buffer. The rows above stay as they are, or move up by as many rows as had no room below.
+//!
 //! A character of a buffer takes one column or two. One of two columns has two cells: its own, and behind it a covered one with the character 0
 //! and the same style. Both are in one row. What is written over one of the two leaves a space in the other, in the style that it had.
 //!
@@ -43,7 +48,7 @@
 //!
 //! A `Cell` has 32 bytes. A frame compares cells by words, and copies those that changed.
 //!
-//! `new` and `resize` take memory. `draw` needs none: it gathers a frame in 4,096 bytes on the stack, and gives them to the writer as they fill.
+//! `new` and `resize` take memory, and a block's `draw` does for rows that it adds. Else `draw` needs none: it gathers a frame in 4,096 bytes on the stack, and gives them to the writer as they fill.
 //!
 //! What is proved, beyond safety:
 //!
@@ -56,6 +61,9 @@
 //! | a frame of a strip turns the cursor's row into the buffer's, wherever it is, and nothing else; it is a frame of a screen of one row with CHA for CUP, and CHA and EL for ED, and is refused as such a frame | `Strip::draw` |
 //! | a frame right behind the last one of a strip relies on the cursor's column after that: it prints the cells that differ, moves only to one that isn't right behind the one before it, or prints at most three again in place of that, sets a style only if it changes, and writes nothing else. If the cells or that column aren't known, it is a frame as of `draw` | `Strip::draw_next` |
 //! | a strip has as much memory after a frame as before; it gives none back, and a width that it has memory for isn't refused | `Strip::{new, resize, draw}` |
+//! | a frame of a block turns its rows into the buffer's, wherever they are: the rows above are as they were or moved up by as many as had no room, and those below stay; with the cursor at the place that was asked for | `Block::{draw, draw_next}` |
+//! | it visits the rows in which cells change, each by a frame of the strip there, and moves by CUU, CUD and CHA alone; a row is added by CR, LF and EL; right behind the last frame nothing else is written | `Block::{draw, draw_next}` |
+//! | a wrong size or place, and memory that is refused, write nothing and change nothing; memory is refused for more rows alone than there is memory for; at any other error a beginning of the frame was written and nothing else, and the block has no rows then | `Block::{draw, draw_next}` |
 //! | a character that no cell can hold is refused by name, `set` refuses one of two in a row's last column too, and a refusal changes nothing | `Buffer::{fill, set, print, print_replacing, print_without_marks, print_in, border}` |
 //! | a cell has the character and the style that it was made of, each colour and attribute of it, and its marks in their order | `Cell::{new, symbol, marks, style}`, `Marks::{len, is_empty, get, fmt}` |
 //! | no half of a character of two columns is alone: what loses its other half is a space in the style that it had | `Buffer::{cells, fill, set, print, print_replacing, print_without_marks, print_in, border, set_style, fill_area}` |
@@ -69,7 +77,7 @@
 //! | what two rectangles have in common, and what is left of one without a margin, has the columns and rows that it has to have, and no others | `Rect::{contains, intersection, inner}` |
 //! | of a rectangle that is split, each column and row is in one of both parts and not in the other one | `Rect::{split_columns, split_rows}` |
 //! | the chosen entry of a list is in sight, no row is empty as long as an entry above is out of sight, and the list scrolls no further than it must | `ListState::{choose, up, down, page_up, page_down, first, last, resize}` |
-//! | as an `io::Error`, a fault has the kind `InvalidInput`; the fault of a command is the error that it becomes by itself | `From<CellFault>` and `From<DrawFault>` of `io::Error` |
+//! | as an `io::Error`, a fault has the kind `InvalidInput`, or `OutOfMemory` if memory was refused; the fault of a command is the error that it becomes by itself | `From<CellFault>` and `From<DrawFault>` of `io::Error` |
 //!
 //! What to believe, in the order in which it reads (`specs/`), and the contracts that it is proved by:
 //!
@@ -77,7 +85,7 @@
 //! |---|---|---|---|
 //! | `Marks` | 44 | which characters are marks of the one before them, and which ones terminals join with others | `Marks` |
 //! | `Parts` | 14 | the parts of a text: each is a character with its marks | `Buffer::{print, print_replacing, print_in}` |
-//! | `Grids` | 223 | a terminal as a grid of cells, and what each token does to it | |
+//! | `Grids` | 253 | a terminal as a grid of cells, and what each token does to it | |
 //! | `Cells` | 89 | what a cell is and how it looks, which cells are paired, and which characters fit | `Cell::{new, blank, symbol, style}`, `Buffer::{cells, fill, set}` |
 //! | `Overwriting` | 46 | the cells that a character takes, and what becomes of the halves beside them | `Buffer::{set, print, print_replacing, print_without_marks}` |
 //! | `Texts` | 62 | the cells of a text's parts, what has room, and what is replaced in it or left out | `Buffer::{print, print_replacing, print_without_marks}` |
@@ -89,8 +97,9 @@
 //! | `Scrolls` | 54 | which entries of a list are in sight, and how far it scrolls | `ListState` |
 //! | `Screens` | 18 | a screen, and what it drew last | `Screen` |
 //! | `Updates` | 131 | which characters have to be printed, and how few moves and styles do it | `Screen::draw` |
-//! | `Drawings` | 143 | what a frame does to each grid, how many characters it prints, and what is refused | `Screen::draw`, `From<DrawFault>` of `io::Error` |
-//! | `Strips` | 187 | a strip, how it lies in a grid, what a frame does to its row and with which tokens, and what is refused | `Strip` |
+//! | `Drawings` | 146 | what a frame does to each grid, how many characters it prints, and what is refused | `Screen::draw`, `From<DrawFault>` of `io::Error` |
+//! | `Strips` | 189 | a strip, how it lies in a grid, what a frame does to its row and with which tokens, and what is refused | `Strip` |
+//! | `Blocks` | 209 | a block, how it lies in a grid, what a frame does to its rows and with which tokens, and what is refused | `Block` |
 //!
 //! `specs/inside/` says the same of a frame's parts, and no public clause cites it.
 //!
@@ -99,6 +108,7 @@
 
 mod alignment;
 mod areas;
+mod blocks;
 mod borders;
 mod bridges;
 mod buffers;
@@ -116,11 +126,14 @@ mod rects;
 mod screens;
 mod settings;
 mod starts;
+mod steps;
 mod strips;
 mod strokes;
 mod texts;
+mod walking;
 
 pub use alignment::Alignment;
+pub use blocks::Block;
 pub use borders::Border;
 pub use buffers::Buffer;
 pub use cells::Cell;

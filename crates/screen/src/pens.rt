@@ -1,7 +1,9 @@
 //! Pens: strokes on their way to a writer.
-ghost use Rattle.std.specs.Prelude.{◌≡◌, ◌∷◌, [], List, None, OnErr, OnOk, Option, ℕ};
-ghost use Rattle.screen.specs.inside.Pens.{Breaks, Ends, PutsStrokes};
+ghost use Rattle.std.specs.Prelude.{◌≡◌, ◌∷◌, [], List, None, OnErr, OnOk, Option, Some, ℕ};
+ghost use Rattle.screen.specs.inside.Blocks.{PutsTokens, step_tokens};
+ghost use Rattle.screen.specs.inside.Pens.{Breaks, Ends, PutsStrokes, PutsText};
 
+use crate::steps::Step;
 use crate::strokes::{Stroke, Written};
 use arrayvec::ArrayString;
 use crossterm_command::{ColorOutput, Command, CommandFault, write_text};
@@ -58,17 +60,13 @@ fn make_room<W: io::Write>(writer: &mut W, pen: &mut Pen)
     }
 }
 
-/// Puts a stroke behind what waits.
-fn take(pen: &mut Pen, stroke: &Stroke)
-    ensures { (known : Option (List ℕ)) → PutsStrokes (stroke.now ∷ []) known pen.old known pen.new }
+/// Puts a command's text behind what waits.
+fn take<C: Command>(pen: &mut Pen, command: &C)
+    ensures { (text : List ℕ) (known : Option (List ℕ)) → C.text command.now pen.old.colors ≡ Some text → PutsText text known pen.old known pen.new }
 {
-    let written = Written {
-        in_row: pen.in_row,
-        stroke,
-    };
     match pen.fault {
         Some(_) => {}
-        None => match written.write_ansi(&mut pen.waiting, pen.colors) {
+        None => match command.write_ansi(&mut pen.waiting, pen.colors) {
             Ok(()) => {}
             Err(_) => pen.fault = Some(CommandFault::Text),
         },
@@ -80,7 +78,19 @@ pub(crate) fn put<W: io::Write>(writer: &mut W, pen: &mut Pen, stroke: Stroke)
     ensures { PutsStrokes (stroke ∷ []) (W.contents writer.old) pen.old (W.contents writer.new) pen.new }
 {
     make_room(writer, pen);
-    take(pen, &stroke);
+    let written = Written {
+        in_row: pen.in_row,
+        stroke: &stroke,
+    };
+    take(pen, &written);
+}
+
+/// Puts a step of a block behind the strokes before.
+pub(crate) fn put_step<W: io::Write>(writer: &mut W, pen: &mut Pen, step: Step)
+    ensures { PutsTokens (step_tokens step) (W.contents writer.old) pen.old (W.contents writer.new) pen.new }
+{
+    make_room(writer, pen);
+    take(pen, &step);
 }
 
 /// Writes the last of what waits, and returns the first fault.

@@ -252,8 +252,34 @@ fn put_stop<W: io::Write>(
     put_style(writer, pen, &setting);
 }
 
-/// Writes the strokes that turn the cells of a row into others, if the cursor is still shown in the column in which the last frame left it, and
-/// the plain style is set.
+/// Puts the strokes that turn the cells of a row into others, if the cursor is still shown in the column in which the last frame left it, and the
+/// plain style is set.
+pub(crate) fn put_next<W: io::Write>(
+    writer: &mut W,
+    pen: &mut Pen,
+    width: u16,
+    before: &mut [Cell],
+    after: &[Cell],
+    from: u16,
+    column: u16,
+)
+    requires before { length before.old ≡ width * 1 }
+    requires length { length after.now ≡ width * 1 }
+    requires fits { All IsPlaced after.now }
+    requires before_paired { ArePaired false before.old }
+    requires after_paired { ArePaired false after.now }
+    requires rows { StayInRows width after.now }
+    requires column { column < width }
+    ensures strokes { (strokes : List Stroke) × PlannedNext width before.old after.now from column strokes × AreFitting (start.All from) strokes
+        × PutsStrokes strokes (W.contents writer.old) pen.old (W.contents writer.new) pen.new }
+    ensures shown { before.new ≡ after.now }
+{
+    let start = Start::All(usize::from(from));
+    let (cursor, style) = scan(writer, pen, start, (width, 1), before, after);
+    put_stop(writer, pen, cursor, style, after, column);
+}
+
+/// Writes these strokes.
 pub(crate) fn write_next<W: io::Write>(
     writer: &mut W,
     colors: ColorOutput,
@@ -277,9 +303,7 @@ pub(crate) fn write_next<W: io::Write>(
     ensures shown { before.new ≡ after.now }
 {
     let mut pen = Pen::new(colors, true);
-    let start = Start::All(usize::from(from));
-    let (cursor, style) = scan(writer, &mut pen, start, (width, 1), before, after);
-    put_stop(writer, &mut pen, cursor, style, after, column);
+    put_next(writer, &mut pen, width, before, after, from, column);
     match finish(writer, &mut pen) {
         Ok(()) => Ok(()),
         Err(fault) => Err(fault),

@@ -16,11 +16,14 @@ PassesOn waiting None text old new later (Some e) = AppendsFront old new (waitin
 PassesOn waiting (Some e) text old new later None = ⊥
 PassesOn waiting (Some e) text old new later (Some f) = new ≡ old
 
--- The strokes' text is appended to the pen's waiting bytes, some of which may be written now. The pen writes as before.
+-- A text is appended to the pen's waiting bytes, some of which may be written now. The pen writes as before.
+abbrev pub PutsText : List ℕ → Option (List ℕ) → Pen → Option (List ℕ) → Pen → Type 0
+PutsText text old pen new next =
+    (next.colors ≡ pen.colors) × (next.in_row ≡ pen.in_row) × PassesOn pen.waiting.bytes pen.fault text old new next.waiting.bytes next.fault
+
+-- The same of the strokes' text.
 abbrev pub PutsStrokes : List Stroke → Option (List ℕ) → Pen → Option (List ℕ) → Pen → Type 0
-PutsStrokes strokes old pen new next =
-    (next.colors ≡ pen.colors) × (next.in_row ≡ pen.in_row)
-    × PassesOn pen.waiting.bytes pen.fault (text_of (written_of pen.in_row pen.colors strokes)) old new next.waiting.bytes next.fault
+PutsStrokes strokes old pen new next = PutsText (text_of (written_of pen.in_row pen.colors strokes)) old pen new next
 
 -- The last bytes were written, and there was no fault before.
 abbrev pub Ends : List ℕ → Option CommandFault → Option (List ℕ) → Option (List ℕ) → Type 0
