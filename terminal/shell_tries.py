@@ -1,5 +1,6 @@
 """How `shell` does in a terminal, and what is in the file of its history however it ends."""
 import contextlib
+import fcntl
 import os
 import resource
 import signal
@@ -149,14 +150,14 @@ def shell_goes_on_without_a_file():
 
 
 def shell_writes_the_rest_later():
-    """A file that may grow by a part of a line alone, as on a full disk: the rest follows as soon as that is possible."""
+    """A file that may grow by a part of a line alone, as on a full disk: no part stays, and the lines follow as soon as that is possible."""
     with room() as path, shell(path) as terminal:
         says(terminal, b'one')
         pid = shell_process(terminal)
         most = resource.prlimit(pid, resource.RLIMIT_FSIZE)
         resource.prlimit(pid, resource.RLIMIT_FSIZE, (12, most[1]))
         says(terminal, b'two', b'three')
-        equal('a part of the history', written(path), b'echo one\nech')
+        equal('the whole lines of the history', written(path), b'echo one\n')
         equal('how often it is said', terminal.out.count(f"shell: {path} can't be written: ".encode()), 1)
         resource.prlimit(pid, resource.RLIMIT_FSIZE, most)
         says(terminal, b'four')
@@ -190,7 +191,67 @@ def shell_appends():
         equal('history', written(path), lines + b'echo 1499\n')
 
 
+def shells_append_at_once():
+    """Two shells that append to one file at the same time: the lines of both are whole, and each shell's in order."""
+    with room() as path:
+        write(path, b'echo before')
+        said = {name: [b'echo %s%d' % (name, number) for number in range(50)] for name in (b'a', b'b')}
+        with shell(path) as first, shell(path) as second:
+            for number in range(0, 50, 10):
+                for terminal, lines in ((first, said[b'a']), (second, said[b'b'])):
+                    terminal.send(b''.join(line + b'\r' for line in lines[number:number + 10]))
+            first.until(b'\r\na49\r\n')
+            second.until(b'\r\nb49\r\n')
+            ends(first)
+            ends(second)
+        first, *others = written(path).split(b'\n')
+        equal('the line that had no end', first, b'echo before')
+        for name, lines in said.items():
+            equal(f'the lines of {name}', [line for line in others if line.startswith(b'echo ' + name)], lines)
+        equal('how many lines there are', len(others), 101)
+        equal('the end', others[-1], b'')
+
+
+def shell_is_cut_while_another_appends():
+    """A shell can write parts of lines alone, while another one appends to the same file: no line is within another."""
+    with room() as path, shell(path) as cut, shell(path) as whole:
+        says(cut, b'one')
+        pid = shell_process(cut)
+        most = resource.prlimit(pid, resource.RLIMIT_FSIZE)
+        resource.prlimit(pid, resource.RLIMIT_FSIZE, (12, most[1]))
+        says(cut, b'two')
+        says(whole, b'three', b'four')
+        says(cut, b'five')
+        equal('the lines of the other one', written(path), b'echo one\necho three\necho four\n')
+        resource.prlimit(pid, resource.RLIMIT_FSIZE, most)
+        says(cut, b'six')
+        says(whole, b'seven')
+        equal('history', written(path), b'echo one\necho three\necho four\necho two\necho five\necho six\necho seven\n')
+        ends(cut)
+        ends(whole)
+
+
+def shell_goes_on_without_a_lock():
+    """A file that another program has locked is waited for, but not for ever. A line of which only a part could be written is written anew."""
+    with room() as path, shell(path) as terminal:
+        write(path, b'echo before\n')
+        with open(path, 'rb') as file:
+            fcntl.flock(file, fcntl.LOCK_EX)
+            start = time.time()
+            says(terminal, b'one')
+            equal('history of a locked file', written(path), b'echo before\necho one\n')
+            equal('less than 2 s', time.time() - start < 2, True)
+            pid = shell_process(terminal)
+            most = resource.prlimit(pid, resource.RLIMIT_FSIZE)
+            resource.prlimit(pid, resource.RLIMIT_FSIZE, (24, most[1]))
+            says(terminal, b'two')
+            resource.prlimit(pid, resource.RLIMIT_FSIZE, most)
+        says(terminal, b'three')
+        equal('history', written(path), b'echo before\necho one\nech\necho two\necho three\n')
+        ends(terminal)
+
+
 TRIES = [
     shell_completes_and_remembers, shell_ends_by_signals, shell_sets_a_file_aside, shell_goes_on_without_a_file,
-    shell_writes_the_rest_later, shell_appends,
+    shell_writes_the_rest_later, shell_appends, shells_append_at_once, shell_is_cut_while_another_appends, shell_goes_on_without_a_lock,
 ]

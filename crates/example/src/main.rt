@@ -9,10 +9,12 @@ use example_modes::{
     stream, table,
 };
 use own_terminal::Tty;
+use prompt::LockFile;
 use std::env;
 use std::io::{self, BufWriter, ErrorKind};
 use std::rt::Files;
 use std::sync::Wait;
+use std::time::Clock;
 
 const USAGE: &str = "usage: example NAME
 by itself: frames, keylog, own_command, table, paint serve PORT, paint serve PORT SECONDS
@@ -40,12 +42,15 @@ fn run_plain(rt: &HostRuntime, name: &str, words: &[String]) -> io::Result<()> {
 }
 
 /// Runs an example in a terminal: `keys`, with the bindings of a file, if the name is none of the others.
-fn run_in_terminal<R: AllocGlobal + Files + Wait>(
+fn run_in_terminal<R: AllocGlobal + Files + Clock + Wait>(
     rt: &R,
     tty: &mut Tty<'_>,
     name: &str,
     file: Option<&str>,
-) -> io::Result<()> {
+) -> io::Result<()>
+where
+    R::File: LockFile,
+{
     match name {
         "browse" => browse::run(rt, tty),
         "edit" => edit::run(rt, tty),

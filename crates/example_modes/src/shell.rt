@@ -4,19 +4,17 @@
 //! each line is appended to it as soon as it is accepted, so that none is lost, however the shell ends. Only its owner may read a file that is
 //! made. One that can't be written is named once, and the shell goes on.
 
-mod saved;
-
 use crossterm::cursor::MoveTo;
 use crossterm::style::ColorOutput;
 use crossterm::terminal::{Clear, ClearType};
 use crossterm::{QueueableCommand, queue};
 use line_editor::{Editor, Limits};
 use own_terminal::{Feature, Tty};
-use prompt::{Prompt, Read, Words};
-use saved::Saved;
+use prompt::{HistoryFile, HistoryTrouble, LockFile, Prompt, Read, Words};
 use std::fs::Files;
 use std::io::{self, ErrorKind, Write};
 use std::sync::Wait;
+use std::time::Clock;
 
 const COLORS: ColorOutput = ColorOutput::Enabled;
 
@@ -49,19 +47,32 @@ fn obey<W: Write>(out: &mut W, editor: &Editor, line: &str) -> io::Result<bool> 
     Ok(true)
 }
 
+/// Says what is wrong with the history's file, if something is.
+fn say<W: Write>(out: &mut W, file: &str, trouble: Option<HistoryTrouble>) -> io::Result<()> {
+    if let Some(trouble) = trouble {
+        write!(out, "shell: {file} {trouble}\r\n")?;
+    }
+    Ok(())
+}
+
 /// Reads lines, appends them to the history's file and does what they say, until one ends the shell.
-fn obey_all<R: Files + Wait>(
+fn obey_all<R: Files + Clock + Wait>(
     rt: &R,
     tty: &mut Tty<'_>,
     editor: &mut Editor,
-    saved: &mut Saved<'_>,
-) -> io::Result<()> {
+    history: &mut HistoryFile<'_>,
+    file: &str,
+) -> io::Result<()>
+where
+    R::File: LockFile,
+{
     let words = Words::new(&COMMANDS);
     let prompt = Prompt::new("$ ").with_helper(&words);
     for _ in rt.forever() {
         match prompt.read_line(rt, tty, editor)? {
             Read::Line(line) => {
-                saved.append(rt, line.as_str(), &mut tty.out)?;
+                let trouble = history.append(rt, editor, line.as_str())?;
+                say(&mut tty.out, file, trouble)?;
                 if !obey(&mut tty.out, editor, line.as_str())? {
                     break;
                 }
@@ -79,11 +90,20 @@ fn obey_all<R: Files + Wait>(
 ///
 /// Those of the terminal and its writer, but for the end of input, and `OutOfMemory` if memory was refused. A file that can't be read or
 /// written is named in the terminal, and is no error.
-pub fn run<R: AllocGlobal + Files + Wait>(rt: &R, tty: &mut Tty<'_>, file: &str) -> io::Result<()> {
+pub fn run<R: AllocGlobal + Files + Clock + Wait>(
+    rt: &R,
+    tty: &mut Tty<'_>,
+    file: &str,
+) -> io::Result<()>
+where
+    R::File: LockFile,
+{
     let mut editor = Editor::new(tty.alloc, Limits::default())?;
-    let mut saved = Saved::load(rt, file, &mut editor, &mut tty.out)?;
+    let mut history = HistoryFile::new(tty.alloc, file);
+    let trouble = history.load(rt, &mut editor)?;
+    say(&mut tty.out, file, trouble)?;
     tty.turn_on(Feature::BracketedPaste)?;
-    match obey_all(rt, tty, &mut editor, &mut saved) {
+    match obey_all(rt, tty, &mut editor, &mut history, file) {
         Err(error) if error.kind() != ErrorKind::UnexpectedEof => Err(error),
         _ => Ok(()),
     }

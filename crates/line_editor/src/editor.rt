@@ -1,5 +1,5 @@
 //! An editor of a line, an action at a time.
-ghost use Rattle.std.specs.Prelude.{◌≡◌, ◌≤◌, false, List, [], IfErr, IfOk, IsOk, MatchOption, None, Some, OnOk, OnErr};
+ghost use Rattle.std.specs.Prelude.{◌≡◌, ◌≤◌, false, List, [], ◌∷◌, ◌++◌, IfErr, IfOk, IsOk, MatchOption, None, Some, OnOk, OnErr, encode_utf8_all};
 ghost use Rattle.std.specs.Str.{chars, IsCharBoundary};
 ghost use Rattle.std.specs.String.{string_bytes};
 ghost use Rattle.line_editor.specs.declared.actions.Action.{Action};
@@ -7,7 +7,7 @@ ghost use Rattle.line_editor.specs.declared.fault.EditFault.TheVariants.{Memory}
 ghost use Rattle.unicode_segmentation.specs.Segments.{chars_before};
 ghost use Rattle.line_editor.specs.Bounds.{AreAllowed, StopsAt, is_too_long, more_by, popped_more, refusal_of, room_of, size};
 ghost use Rattle.line_editor.specs.Edits.{cut_text, inserted, meeting};
-ghost use Rattle.line_editor.specs.History.{loaded, saved};
+ghost use Rattle.line_editor.specs.History.{line_saved, loaded, saved};
 ghost use Rattle.line_editor.specs.Kills.{kept_by, kill_text};
 ghost use Rattle.line_editor.specs.Places.{target_place};
 ghost use Rattle.line_editor.specs.Shown.{AreRows, pasted_part};
@@ -18,7 +18,7 @@ ghost use Rattle.line_editor.specs.States.{IsMove, accepted, acted, after, befor
 use crate::actions::Action;
 use crate::draft::Draft;
 use crate::fault::EditFault;
-use crate::history::{history_of, saved};
+use crate::history::{history_of, saved, saved_line};
 use crate::kills::{keep, kill_at, next_place};
 use crate::last::{Last, rung};
 use crate::left::Left;
@@ -653,6 +653,33 @@ impl<A: Allocator + Clone> Editor<A> {
             Err(_) => return Err(EditFault::Memory),
         };
         match saved(alloc, self.limits.multiline, &self.history) {
+            Ok(text) => Ok(text),
+            Err(_) => Err(EditFault::Memory),
+        }
+    }
+
+    /// The text of one line in the text of a history, with its line feed, for who appends each line as it is accepted. `history_text` is
+    /// these texts of the accepted lines, one after another.
+    ///
+    /// If lines may have several rows (`Limits::multiline`), it is escaped as `history_text` says.
+    ///
+    /// # Errors
+    ///
+    /// `Memory` if memory was refused.
+    ///
+    /// ```
+    /// assert_eq!(rt; editor.saved_line("two words")?.as_str(), "two words\n");
+    /// ```
+    pub fn saved_line(&self, line: &str) -> Result<String<A>, EditFault>
+        ensures text { IfOk result (λ text. chars (string_bytes text) ≡ line_saved self.now.limits.multiline (chars line.now) ++ 10 ∷ []) }
+        ensures bytes { IfOk result (λ text. string_bytes text ≡ encode_utf8_all (line_saved self.now.limits.multiline (chars line.now) ++ 10 ∷ [])) }
+        ensures fault { IfErr result (λ fault. fault ≡ Memory) }
+    {
+        let alloc = match self.alloc.clone() {
+            Ok(alloc) => alloc,
+            Err(_) => return Err(EditFault::Memory),
+        };
+        match saved_line(alloc, self.limits.multiline, line) {
             Ok(text) => Ok(text),
             Err(_) => Err(EditFault::Memory),
         }

@@ -58,6 +58,20 @@ fn push_line<A: Allocator>(
     Ok(())
 }
 
+/// The text of one line in the text of a history, with its line feed.
+pub(crate) fn saved_line<A: Allocator>(
+    alloc: A,
+    multiline: bool,
+    line: &str,
+) -> Result<String<A>, AllocError>
+    ensures text { IfOk result (λ text. chars (string_bytes text) ≡ line_saved multiline (chars line.now) ++ 10 ∷ []) }
+    ensures bytes { IfOk result (λ text. string_bytes text ≡ encode_utf8_all (line_saved multiline (chars line.now) ++ 10 ∷ [])) }
+{
+    let mut saved = String::new(alloc);
+    push_line(&mut saved, multiline, line)?;
+    Ok(saved)
+}
+
 /// The text of a history: its lines, the oldest first, with a line feed behind each.
 pub(crate) fn saved<A: Allocator>(
     alloc: A,

@@ -33,6 +33,7 @@
 //! | an incremental search finds the nearest line that contains what is looked for, and nothing if none does; what is given up leaves the line that was there | `Editor::turn`, `laws::{finds_nearest, finds_newer, finds_piece}` |
 //! | of a line as much is seen as has room, from one place between clusters to another, with the cursor at its place in the line | `Line::seen`, `laws::{fits, keeps_clusters}` |
 //! | the text of a history is its lines, the oldest first; a history that is loaded is the last lines of a text that have room; loading what was saved gives the same history | `Editor::{history_text, load_history}`, `laws::loads_saved` |
+//! | a line that is appended by itself has the text that it has in a history's | `Editor::saved_line` |
 //! | a line has no more bytes than its limit, the history no more lines and undo no more steps for each line; no more lines are kept for others than the history has; whatever is done that isn't refused | `laws::stays_bounded` |
 //! | a key asks for what the table of GNU readline's keys says | `command_of` |
 //! | what reads as the name of an action, and that an action's name reads as this action | `Action::from_name`, `Display` of `Action`; `laws::reads_back` |
@@ -55,7 +56,7 @@
 //! | `States` | an editor's state, and what each action makes of it | `Editor` |
 //! | `Bounds` | which texts have room, and what is refused | `Editor::{act, run, paste}` |
 //! | `Seeking` | incremental searches | `Editor::{pattern, turn}` |
-//! | `History` | a history as a text, and the history that a text holds | `Editor::{history_text, load_history}` |
+//! | `History` | a history as a text, and the history that a text holds | `Editor::{history_text, saved_line, load_history}` |
 //! | `Tasks` | what is done to an editor by its calls | `laws::stays_bounded` |
 //! | `Bounded` | what is true of an editor, whatever was done to it | `laws::{stays_bounded, loads_saved}` |
 //! | `Keys` | the keys of GNU readline, and what each asks for | `command_of` |

@@ -10,3 +10,4 @@ pub mod Showing
 pub mod Drawn
 pub mod Sending
 pub mod Querying
+pub mod Appended

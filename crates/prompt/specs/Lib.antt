@@ -7,4 +7,5 @@ pub mod Drawing
 pub mod Pictures
 pub mod Frames
 pub mod Written
+pub mod Histories
 pub mod inside

@@ -17,7 +17,8 @@
 //! }
 //! ```
 //!
-//! A `Prompt` has more: a `Helper` completes the line at Tab, and shows a hint behind it. `Words` is one that completes names.
+//! A `Prompt` has more: a `Helper` completes the line at Tab, and shows a hint behind it. `Words` is one that completes names. A `HistoryFile`
+//! keeps the accepted lines from one run to the next.
 //!
 //! The line takes one row, and is seen through it as `Line::seen` says, in all columns of the window but the last. A key writes what it changes
 //! of the row: a letter that is typed at the line's end is one byte. That relies on the cursor's column after the last frame, so nothing else is
@@ -48,11 +49,14 @@
 //! | a frame makes the row show these cells, with the cursor behind what was printed before it, and changes nothing else; at an error a beginning of one was written. What leaves a row, and what clears the window | `Row::{draw, draw_next, leaving, clearing}` |
 //! | a frame for who draws alone has no move, no style and no other control function that it doesn't need | `Row::draw_next`, `Prompt::read_line`, `read_line` |
 //! | names complete a text by the rest of the first that begins with it and goes on | `Helper::complete` of `Words` |
+//! | what is to be written to a history's file grows by the text of each line that is appended, unless the editor's limits leave the line out. No byte of it is lost: only what was written to a file goes, up to the start of a line, and the rest stays | `HistoryFile::append` |
+//! | that a history's file can't be read or written is returned once; if it wasn't, nothing is left to be written; refused memory changes nothing | `HistoryFile::{load, append}` |
 //!
 //! The row is drawn by `screen::Strip::draw_next`, so each frame makes it show some cells, and changes nothing else, if nothing but bells was
 //! written since the last one. (A bell, BEL, moves no cursor; the definitions of `screen` don't speak of it.) The cursor is behind what was
 //! printed before it. It is only tested that the line is seen in as many columns as have room, which rows are erased after a resize, and how
-//! often a terminal that doesn't answer is asked.
+//! often a terminal that doesn't answer is asked. So it is that several programs append whole lines to one history's file, and that a part of a
+//! line is cut off again.
 //!
 //! What to believe, in the order in which it reads (`specs/`), and the contracts that it is proved by:
 //!
@@ -67,23 +71,30 @@
 //! | `Pictures` | which cells show a prompt, a line and a hint | `Row::{draw, draw_next}`, `Prompt::read_line`, `read_line` |
 //! | `Frames` | what is written to show a line: a frame of the row, the bell, an erasure | `Row::{draw, draw_next}`, `Prompt::read_line`, `read_line` |
 //! | `Written` | what is written while a line is asked for, piece by piece | `Prompt::read_line`, `read_line` |
+//! | `Histories` | the lines that are appended to a history's file | `HistoryFile` |
 //!
 //! `specs/inside/` says the same of a part, and no public clause cites it.
 //!
 //! A function's proof is in `proofs/` at the function's path; if there is no file, the prover found it by itself.
 #![tactic(auto)]
 
+mod appending;
 mod asking;
 mod drawing;
 mod helpers;
+mod histories;
 pub mod laws;
 mod prompts;
 mod read;
+mod troubles;
 mod words;
 
+pub use appending::LockFile;
 pub use asking::{Prompt, read_line};
 pub use drawing::Row;
 pub use helpers::Helper;
+pub use histories::HistoryFile;
 pub use prompts::{is_shown, search_text};
 pub use read::Read;
+pub use troubles::HistoryTrouble;
 pub use words::Words;

@@ -725,7 +725,7 @@ fn came_of_key(editor: &mut Editor<&LocalHeap>, key: &Key) -> Came {
     came(done, before, lengths(editor))
 }
 
-/// What comes of all actions, and of accepting the line and of the history's text.
+/// What comes of all actions, of accepting the line, and of its text and the history's.
 fn came_of_all(heap: &LocalHeap) -> Result<Came, EditFault> {
     let mut editor = Editor::new(heap, multiline())?;
     editor.load_history("two\n")?;
@@ -741,7 +741,8 @@ fn came_of_all(heap: &LocalHeap) -> Result<Came, EditFault> {
             came => return Ok(came),
         }
     }
-    editor.accept()?;
+    let line = editor.accept()?;
+    editor.saved_line(line.as_str())?;
     editor.history_text()?;
     Ok(Came::Done)
 }

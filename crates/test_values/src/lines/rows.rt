@@ -138,3 +138,27 @@ fn a_history_keeps_rows(rt: HostRuntime) -> Result<(), EditFault> {
     expect!(rt; has_rows(other.line(), "a\\.b\\|"));
     Ok(())
 }
+
+/// Lines, and their texts in a history's file: of lines of several rows, and of one row.
+const SAVED: [(&str, &str, &str); 5] = [
+    ("", "\n", "\n"),
+    ("echo one", "echo one\n", "echo one\n"),
+    (
+        "one \\\n  tw\u{F6}",
+        "one \\\\\\n  tw\u{F6}\n",
+        "one \\\n  tw\u{F6}\n",
+    ),
+    ("\\n", "\\\\n\n", "\\n\n"),
+    ("\n\n", "\\n\\n\n", "\n\n\n"),
+];
+
+#[test]
+fn lines_are_saved_one_by_one(rt: HostRuntime) -> Result<(), EditFault> {
+    let rows = Editor::new(rt.alloc(), multiline())?;
+    let row = Editor::new(rt.alloc(), Limits::default())?;
+    for (line, escaped, plain) in SAVED {
+        expect!(rt; rows.saved_line(line)?.as_str() == escaped, line);
+        expect!(rt; row.saved_line(line)?.as_str() == plain, line);
+    }
+    Ok(())
+}
