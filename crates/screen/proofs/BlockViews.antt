@@ -1,15 +1,15 @@
 -- A block by its cells.
-use Rattle.std.proofs.Common.{◌≡◌, ◌⊎◌, inl, inr, ℕ, zero, suc, ◌+◌, ◌-◌, ◌*◌, ◌<◌, ◌≤◌, ◌^◌, ◌==◌, Bool, true, false, cond, List, [], ◌∷◌, ◌++◌, Option, Some, None, refl, sym, ap, ◌∙◌, subst, arith, if◌then◌else◌, drop, length, max, replicate, take}
+use Rattle.std.proofs.Common.{◌≡◌, ℕ, zero, suc, ◌+◌, ◌-◌, ◌*◌, ◌<◌, ◌≤◌, ◌^◌, ◌==◌, true, false, cond, List, [], ◌∷◌, ◌++◌, Option, Some, refl, sym, ap, ◌∙◌, subst, append-nil, arith, if◌then◌else◌, drop, length, max, replicate, take}
 use Rattle.std.proofs.lemmas.Bool.Decides.{nat_tests}
-use Rattle.std.proofs.lemmas.List.{take_all}
+use Rattle.std.proofs.lemmas.List.{drop_all, take_all}
 use Rattle.std.proofs.Math.Nat.{max-eq_left, mul-add}
 use Rattle.std.specs.List.{AllByRecursion}
 use Rattle.std.proofs.lemmas.List.Elements.{All-append}
 use Rattle.crossterm_command.specs.Tokens.{Token}
 use Rattle.crossterm_command.specs.declared.color_output.ColorOutput.{ColorOutput}
-use Rattle.screen.specs.Blocks.{BlockView, FitsBlock, IsBlockFrame, TurnsBlock, Visits, added, beginning, begun_column, blank_rows, grown_column, grown_row, growth, known_rows, picture_rows, cut_rows, without_rows}
+use Rattle.screen.specs.Blocks.{BlockView, FitsBlock, IsBlockFrame, TurnsBlock, Visits, beginning, begun_column, blank_rows, grown_column, grown_row, growth, picture_rows, cut_rows, without_rows}
 use Rattle.screen.specs.Buffers.{Picture}
-use Rattle.screen.specs.Cells.{AreLaidOut, Cell, IsPlaced, blank, is_wide}
+use Rattle.screen.specs.Cells.{AreLaidOut, Cell, IsPlaced, blank}
 use Rattle.screen.specs.inside.BlockRows.{IsCellRow, IsInRows}
 use Rattle.screen.specs.inside.Blocks.{PlannedBlock}
 use Rattle.screen.proofs.BlockFrames.{turns_block}
@@ -156,3 +156,31 @@ block_written width height w h count colors cells more before after row column r
     subst (λ n. PlannedBlock width n height colors column row before after end_column end_row ts) high (subst (λ n. PlannedBlock n h height colors column row before after end_column end_row ts) same plan) in
     block_framed width height colors cells before after row column room s p end_column end_row ts is (sym wide ∙ same) (omega (arith, le, high)) size held_as wanted count_of laid placed
     (omega (arith, beside, wide)) (omega (arith, within, high)) (omega (arith, narrow, wide)) (omega (arith, low, high)) plan_as
+
+-- ---- what is held after a frame
+
+-- The cells that a buffer has are shown.
+left_cells : (len : ℕ) (new items wanted : List Cell) → new ≡ wanted → length wanted ≡ len → length items ≡ len → take len (new ++ drop (length new) items) ≡ wanted
+left_cells len new items wanted is size long =
+    let none : drop (length new) items ≡ [] = drop_all (length new) items (omega (arith, ap length is, size, long)) in
+    ap (λ l. take len (new ++ l)) none ∙ ap (take len) (append-nil new) ∙ take_all len new (omega (arith, ap length is, size)) ∙ is
+
+-- The cursor is in its row and column.
+placed_in : (width height row column : ℕ) → row < height → column < width → IsInRows width height row (Some column)
+placed_in width zero row column below beside = absurd (omega (arith, below))
+placed_in width (suc n) row column below beside = (below, beside)
+
+-- A block that was drawn has the buffer's cells, and its cursor is in one of their rows.
+pub held_after : (width w h len count column row : ℕ) (new items shown before : List Cell) (p : Picture) → w ≡ width → w ≡ p.width → h ≡ p.height → count ≡ w * h → length items ≡ count → length before ≡ len → before ≡ items → new ≡ shown → shown ≡ p.cells
+    → length p.cells ≡ p.width * p.height → AreLaidOut p.width p.cells → column < w → row < h
+    → (length (take len (new ++ drop (length new) items)) ≡ width * h) × AreLaidOut width (take len (new ++ drop (length new) items)) × IsInRows width h row (Some column)
+held_after width w h len count column row new items shown before p same wide high number long counted held drawn wanted size laid beside below =
+    let wide_as : p.width ≡ width = sym wide ∙ same in
+    let cells : length p.cells ≡ width * h = size ∙ ap (λ n. n * p.height) wide_as ∙ ap (λ n. width * n) (sym high) in
+    let whole : length items ≡ length p.cells = long ∙ number ∙ ap (λ n. n * h) same ∙ sym cells in
+    let all : len ≡ length items = sym counted ∙ ap length held in
+    let left : take len (new ++ drop (length new) items) ≡ p.cells = left_cells len new items p.cells (drawn ∙ wanted) (sym whole ∙ sym all) (sym all) in (
+      ap length left ∙ cells,
+      subst (AreLaidOut width) (sym left) (subst (λ k. AreLaidOut k p.cells) wide_as laid),
+      placed_in width h row column below (omega (arith, beside, same)),
+    )

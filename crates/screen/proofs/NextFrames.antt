@@ -1,5 +1,5 @@
 -- A frame of a row right behind the last one.
-use Rattle.std.proofs.Common.{◌≡◌, ◌<◌, ◌-◌, ◌*◌, ◌+◌, ℕ, Err, Option, Some, None, Bool, true, false, cond, List, ◌++◌, flat_map, refl, sym, ap, ◌∙◌, subst, arith, append_assoc, length, map, replicate, take}
+use Rattle.std.proofs.Common.{◌≡◌, ◌<◌, ◌-◌, ◌*◌, ◌+◌, ℕ, Err, Option, Some, None, true, false, cond, List, ◌++◌, flat_map, refl, sym, ap, ◌∙◌, subst, arith, append_assoc, length, map, replicate, take}
 use Rattle.std.specs.List.{AllByRecursion}
 use Rattle.crossterm_command.specs.Tokens.{Token}
 use Rattle.crossterm_command.specs.declared.color_output.ColorOutput.{ColorOutput}
@@ -13,7 +13,7 @@ use Rattle.screen.specs.declared.strokes.Stroke.{Stroke}
 use Rattle.screen.specs.Buffers.{Picture}
 use Rattle.screen.specs.Cells.{Cell, blank, cell_look}
 use Rattle.screen.specs.Drawings.{CursorFits, HasSize, IsSameSize, cells_before, cells_drawn, knows_cells, same_output}
-use Rattle.screen.specs.Grids.{Grid, Square, blank_square, run}
+use Rattle.screen.specs.Grids.{Grid, Square, blank_square}
 use Rattle.screen.specs.Screens.{Drawn, View}
 use Rattle.screen.specs.Strips.{ColumnFits, IsFrameBy, IsNextFrame, IsRowFrame, IsShortFrame, LiesIn, RowNotDrawn, ShowsLast, StripView, TurnsNext, as_screen, in_row, without_row}
 use Rattle.screen.specs.inside.Leaving.{left_by}

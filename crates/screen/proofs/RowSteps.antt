@@ -1,8 +1,6 @@
 -- Steps and frames of rows that are put behind others.
-use Rattle.std.proofs.Common.{rules, ◌≡◌, ℕ, zero, suc, ◌+◌, ◌-◌, ◌*◌, ◌<◌, ◌≤◌, true, List, [], ◌∷◌, ◌++◌, Option, Some, None, refl, sym, ap, ◌∙◌, subst, arith, append_assoc}
+use Rattle.std.proofs.Common.{rules, ◌≡◌, ℕ, zero, suc, ◌+◌, ◌-◌, ◌<◌, true, List, [], ◌++◌, Option, Some, None, refl, sym, ap, ◌∙◌, subst, arith}
 use Rattle.std.specs.Fmt.{decimal}
-use Rattle.std.specs.List.{AllByRecursion}
-use Rattle.std.proofs.KnownBytes.{Appends-nil}
 use Rattle.crossterm.proofs.StyleReadings.{Formed, attribute_formed}
 use Rattle.crossterm.specs.Functions.{AppendsReading}
 use Rattle.crossterm.specs.Sequences.{by, clear}
@@ -11,9 +9,7 @@ use Rattle.crossterm_command.proofs.Readings.{all_joined, control_formed, decima
 use Rattle.crossterm_command.proofs.TokenLaws.{one_reading}
 use Rattle.crossterm_command.specs.Controls.{set}
 use Rattle.crossterm_command.specs.Tokens.{IsWellFormed, Token, text_of}
-use Rattle.crossterm_command.specs.Tokens.Token.{Char}
 use Rattle.crossterm_command.specs.Writing.{AppendsFront}
-use Rattle.crossterm_command.specs.declared.fault.CommandFault.{CommandFault}
 use Rattle.crossterm_style.specs.declared.types.attribute.Attribute.TheVariants.{Reset}
 use Rattle.crossterm_style.specs.Styles.{attribute_functions}
 use Rattle.screen.specs.declared.pens.Pen.{Pen}

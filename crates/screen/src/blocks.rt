@@ -22,7 +22,7 @@ use std::marker::Model;
 /// 8.3.41). A program that moves the cursor to another row calls `forget`. The next frame then begins a new block in the cursor's row.
 ///
 /// The promise is for terminals with more columns than the block has, so that no character is printed in a terminal's last column, and with at
-/// least as many rows.
+/// least as many rows. Unlike a frame of a `Strip` by `draw`, one of a block isn't a synchronized update.
 ///
 /// ```
 /// let mut buffer = Buffer::new(alloc, 40, 2)?;
@@ -77,7 +77,7 @@ impl<A: Allocator> Block<A> {
     /// A block of so many columns, whose frames write colours or leave them out. It has no rows yet, and takes no memory.
     ///
     /// ```
-    /// let mut block = Block::new(alloc, color_output(), columns - 1);
+    /// let mut block = Block::new(alloc, ColorOutput::Enabled, columns - 1);
     /// ```
     pub fn new(alloc: A, colors: ColorOutput, width: u16) -> Block<A>
         ensures { result ≡ record { width = width; colors = colors; rows = []; row = 0; column = None; room = result.room } }
@@ -174,8 +174,8 @@ impl<A: Allocator> Block<A> {
     /// # Errors
     ///
     /// `Size` if the buffer hasn't the block's width or has fewer rows, `Cursor` if the place is outside the buffer, and `Memory` if memory was
-    /// refused for rows that are added. Then nothing was written, nothing changed, and what the rows show is known as before. `Command` if the
-    /// writer failed: a beginning of the frame was written, and nothing else. Then nothing is known of the terminal.
+    /// refused for rows that are added. Then nothing was written, and what the rows show is known as before, but the cursor's column isn't.
+    /// `Command` if the writer failed: a beginning of the frame was written, and nothing else. Then nothing is known of the terminal.
     ///
     /// ```
     /// block.draw(&mut tty.out, &buffer, (column, row))?;
@@ -205,7 +205,7 @@ impl<A: Allocator> Block<A> {
     ///
     /// # Errors
     ///
-    /// Those of `draw`.
+    /// Those of `draw`. But for `Command`, the cursor's column is known as before too.
     ///
     /// ```
     /// block.draw_next(&mut tty.out, &buffer, (column, row))?;

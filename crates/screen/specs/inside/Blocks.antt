@@ -1,5 +1,5 @@
 -- The parts of a block's frame.
-use Rattle.std.specs.Prelude.{◌≡◌, ◌⊎◌, ℕ, zero, suc, ◌+◌, ◌-◌, ◌<◌, max, IfSome, List, [], ◌∷◌, ◌++◌, Option, Some, None}
+use Rattle.std.specs.Prelude.{◌≡◌, ◌⊎◌, ℕ, ◌+◌, ◌-◌, ◌<◌, max, List, [], ◌∷◌, ◌++◌, Option}
 use Rattle.std.specs.List.{AllByRecursion}
 use Rattle.crossterm_command.specs.Controls.{set}
 use Rattle.crossterm_command.specs.Tokens.{IsWellFormed, Token, text_of}
@@ -12,8 +12,8 @@ use Rattle.crossterm.specs.declared.terminal.ClearType.TheVariants.{UntilNewLine
 use Rattle.screen.specs.declared.pens.Pen.{Pen}
 use Rattle.screen.specs.declared.steps.Step.{Step}
 use Rattle.screen.specs.declared.steps.Step.TheVariants as step
-use Rattle.screen.specs.Blocks.{Visits, beginning, blank_rows, begun_column, grown_column, grown_row, growth, row_picture, row_strip, cut_rows, to_row}
-use Rattle.screen.specs.Cells.{Cell, blank}
+use Rattle.screen.specs.Blocks.{Visits, beginning, begun_column, grown_column, grown_row, growth, row_picture, row_strip, cut_rows, to_row}
+use Rattle.screen.specs.Cells.{Cell}
 use Rattle.screen.specs.Strips.{IsShortFrame}
 use Rattle.screen.specs.inside.Pens.{PutsText}
 

@@ -1,6 +1,5 @@
 -- The column in which a frame of a strip leaves the cursor.
 use Rattle.std.specs.Prelude.{ℕ, Option, None, Result, Ok, Err}
-use Rattle.std.specs.Bool.{⊤}
 use Rattle.screen.specs.declared.faults.DrawFault.{DrawFault}
 use Rattle.screen.specs.declared.faults.DrawFault.TheVariants.{Size, Cursor, Memory, Command}
 

@@ -1,10 +1,8 @@
-use Rattle.std.proofs.Common.{[], ◌≡◌, inl, inr, ℕ, zero, suc, ◌-◌, ◌*◌, ◌++◌, ◌<◌, ◌∙◌, List, Some, ap, append-nil, arith, drop, length, refl, replicate, subst, sym, take}
+use Rattle.std.proofs.Common.{◌≡◌, inl, inr, ◌-◌, ◌*◌, ◌++◌, ◌<◌, ◌∙◌, ap, arith, length, refl, replicate, subst, sym}
 use Rattle.std.specs.Vec.{vec_capacity, vec_len}
-use Rattle.std.proofs.lemmas.List.{drop_all, take_all}
 use Rattle.screen.specs.Blocks.{PlaceFits}
-use Rattle.screen.specs.Cells.{AreLaidOut, Cell, blank}
-use Rattle.screen.specs.inside.BlockRows.{IsInRows}
-use Rattle.screen.proofs.BlockViews.{block_fits, block_written, fits_block, forgotten_as, laid_below, more_cells, same_but_room}
+use Rattle.screen.specs.Cells.{AreLaidOut, blank}
+use Rattle.screen.proofs.BlockViews.{block_fits, block_written, fits_block, forgotten_as, held_after, laid_below, more_cells, same_but_room}
 use Rattle.screen.proofs.blocks.Block.draw_next.Goals.{then-width-self-via-then-width-self, then-width-self-via-else-width-self+then-height-self}
 use Rattle.screen.proofs.blocks.Block.draw_next.Goals as goal
 
@@ -71,52 +69,17 @@ write_block-written-requires-clause-after g c =
       subst (λ k. AreLaidOut k c.cells.result.now) (sym c.width-width.ensures) (subst (AreLaidOut p.width) (sym c.cells.ensures.cells) laid),
     )
 
--- The cells that a buffer has are shown.
-left_cells : (len : ℕ) (new items wanted : List Cell) → new ≡ wanted → length wanted ≡ len → length items ≡ len → take len (new ++ drop (length new) items) ≡ wanted
-left_cells len new items wanted is size long =
-    let none : drop (length new) items ≡ [] = drop_all (length new) items (omega (arith, ap length is, size, long)) in
-    ap (λ l. take len (new ++ l)) none ∙ ap (take len) (append-nil new) ∙ take_all len new (omega (arith, ap length is, size)) ∙ is
-
--- The cursor is in its row and column.
-placed_in : (width height row column : ℕ) → row < height → column < width → IsInRows width height row (Some column)
-placed_in width zero row column below beside = absurd (omega (arith, below))
-placed_in width (suc n) row column below beside = (below, beside)
-
 pub invariant_of-self-in-Ok-written : goal.invariant_of-self-in-Ok-written
 invariant_of-self-in-Ok-written g c =
-    let p = c.args.buffer.now in
-    let width = c.self.inside.width in
-    let wide : p.width ≡ width = sym c.width-width.ensures ∙ c.if-width-self.false in
-    let len = vec_len c.take_cells.new.cells in
-    let new = c.write_block-written.new.before in
-    let shown : new ≡ p.cells = c.write_block-written.ensures.shown ∙ c.cells.ensures.cells in
-    let size : length p.cells ≡ width * c.height-height.result = c.cells.ensures.count ∙ ap (λ n. n * p.height) wide ∙ ap (λ n. width * n) (sym c.height-height.ensures) in
-    let long : length c.take_cells.new.cells.items ≡ length p.cells = c.in-Ok.ensures.count ∙ c.count_of-count.ensures ∙ ap (λ n. n * c.height-height.result) c.if-width-self.false ∙ sym size in
-    let counted : len ≡ length c.take_cells.new.cells.items = sym c.deref_mut.ensures.len ∙ ap length c.deref_mut.ensures.value in
-    let left : take len (new ++ drop (length new) c.take_cells.new.cells.items) ≡ p.cells = left_cells len new c.take_cells.new.cells.items p.cells shown (sym long ∙ sym counted) (sym counted) in
-    let laid : AreLaidOut p.width p.cells = record { placed = c.cells.ensures.placed; paired = c.cells.ensures.paired; rows = c.cells.ensures.rows } in (
-      ap length left ∙ size,
-      subst (AreLaidOut width) (sym left) (subst (λ k. AreLaidOut k p.cells) wide laid),
-      placed_in width c.height-height.result c.args.cursor.1 c.args.cursor.0 (omega (arith, c.if-cursor-height.false)) (omega (arith, c.if-cursor-width.false, c.if-width-self.false)),
-    )
+    held_after c.self.inside.width c.width-width.result c.height-height.result (vec_len c.take_cells.new.cells) c.count_of-count.result c.args.cursor.0 c.args.cursor.1 c.write_block-written.new.before c.take_cells.new.cells.items c.cells.result.now
+    c.deref_mut.result.now c.args.buffer.now c.if-width-self.false c.width-width.ensures c.height-height.ensures c.count_of-count.ensures c.in-Ok.ensures.count c.deref_mut.ensures.len c.deref_mut.ensures.value c.write_block-written.ensures.shown
+    c.cells.ensures.cells c.cells.ensures.count (record { placed = c.cells.ensures.placed; paired = c.cells.ensures.paired; rows = c.cells.ensures.rows }) (omega (arith, c.if-cursor-width.false)) (omega (arith, c.if-cursor-height.false))
 
 pub invariant_of-self-in-Err-written : goal.invariant_of-self-in-Err-written
 invariant_of-self-in-Err-written g c =
-    let p = c.args.buffer.now in
-    let width = c.self.inside.width in
-    let wide : p.width ≡ width = sym c.width-width.ensures ∙ c.if-width-self.false in
-    let len = vec_len c.take_cells.new.cells in
-    let new = c.write_block-written.new.before in
-    let shown : new ≡ p.cells = c.write_block-written.ensures.shown ∙ c.cells.ensures.cells in
-    let size : length p.cells ≡ width * c.height-height.result = c.cells.ensures.count ∙ ap (λ n. n * p.height) wide ∙ ap (λ n. width * n) (sym c.height-height.ensures) in
-    let long : length c.take_cells.new.cells.items ≡ length p.cells = c.in-Ok.ensures.count ∙ c.count_of-count.ensures ∙ ap (λ n. n * c.height-height.result) c.if-width-self.false ∙ sym size in
-    let counted : len ≡ length c.take_cells.new.cells.items = sym c.deref_mut.ensures.len ∙ ap length c.deref_mut.ensures.value in
-    let left : take len (new ++ drop (length new) c.take_cells.new.cells.items) ≡ p.cells = left_cells len new c.take_cells.new.cells.items p.cells shown (sym long ∙ sym counted) (sym counted) in
-    let laid : AreLaidOut p.width p.cells = record { placed = c.cells.ensures.placed; paired = c.cells.ensures.paired; rows = c.cells.ensures.rows } in (
-      ap length left ∙ size,
-      subst (AreLaidOut width) (sym left) (subst (λ k. AreLaidOut k p.cells) wide laid),
-      placed_in width c.height-height.result c.args.cursor.1 c.args.cursor.0 (omega (arith, c.if-cursor-height.false)) (omega (arith, c.if-cursor-width.false, c.if-width-self.false)),
-    )
+    held_after c.self.inside.width c.width-width.result c.height-height.result (vec_len c.take_cells.new.cells) c.count_of-count.result c.args.cursor.0 c.args.cursor.1 c.write_block-written.new.before c.take_cells.new.cells.items c.cells.result.now
+    c.deref_mut.result.now c.args.buffer.now c.if-width-self.false c.width-width.ensures c.height-height.ensures c.count_of-count.ensures c.in-Ok.ensures.count c.deref_mut.ensures.len c.deref_mut.ensures.value c.write_block-written.ensures.shown
+    c.cells.ensures.cells c.cells.ensures.count (record { placed = c.cells.ensures.placed; paired = c.cells.ensures.paired; rows = c.cells.ensures.rows }) (omega (arith, c.if-cursor-width.false)) (omega (arith, c.if-cursor-height.false))
 
 pub returns-in-Ok-written-clause-frame : goal.returns-in-Ok-written-clause-frame
 returns-in-Ok-written-clause-frame g c =

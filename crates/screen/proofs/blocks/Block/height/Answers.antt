@@ -1,4 +1,4 @@
-use Rattle.std.proofs.Common.{◌≡◌, ◌∙◌, ap, length, sym}
+use Rattle.std.proofs.Common.{◌∙◌, ap, length, sym}
 use Rattle.screen.proofs.CellRows.{rows_count}
 use Rattle.screen.proofs.blocks.Block.height.Goals as goal
 
