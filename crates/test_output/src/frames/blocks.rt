@@ -79,22 +79,17 @@ fn writes(
         && block.row() == cursor.1
 }
 
-/// Whether a frame is refused by a fault, with nothing written.
-fn is_refused(
+/// The fault by which a frame of blank cells is refused, if nothing was written.
+fn refusal(
     alloc: Global,
     block: &mut Block,
     size: (u16, u16),
     cursor: (u16, u16),
-    is_it: fn(&DrawFault) -> bool,
-) -> bool {
-    let Ok(buffer) = Buffer::new(alloc, size.0, size.1) else {
-        return false;
-    };
+) -> Option<DrawFault> {
+    let buffer = Buffer::new(alloc, size.0, size.1).ok()?;
     let mut bytes: Vec<u8> = Vec::new(alloc);
-    match block.draw_next(&mut bytes, &buffer, cursor) {
-        Ok(()) => false,
-        Err(fault) => bytes.is_empty() && is_it(&fault),
-    }
+    let drawn = block.draw_next(&mut bytes, &buffer, cursor);
+    if bytes.is_empty() { drawn.err() } else { None }
 }
 
 /// Whether a frame that breaks off after any number of bytes is a beginning of the whole one, and the next frame begins a new block.
@@ -167,10 +162,10 @@ fn blocks_write_in_their_rows(rt: HostRuntime) -> Result<(), AllocError> {
     for (rows, cursor, wanted) in &FRAMES {
         expect!(rt; writes(alloc, &mut block, rows, *cursor, wanted));
     }
-    expect!(rt; is_refused(alloc, &mut block, (5, 4), (0, 0), |fault| matches!(fault, DrawFault::Size)));
-    expect!(rt; is_refused(alloc, &mut block, (6, 3), (0, 0), |fault| matches!(fault, DrawFault::Size)));
-    expect!(rt; is_refused(alloc, &mut block, (6, 4), (6, 0), |fault| matches!(fault, DrawFault::Cursor)));
-    expect!(rt; is_refused(alloc, &mut block, (6, 4), (0, 4), |fault| matches!(fault, DrawFault::Cursor)));
+    expect!(rt; matches!(refusal(alloc, &mut block, (5, 4), (0, 0)), Some(DrawFault::Size)));
+    expect!(rt; matches!(refusal(alloc, &mut block, (6, 3), (0, 0)), Some(DrawFault::Size)));
+    expect!(rt; matches!(refusal(alloc, &mut block, (6, 4), (6, 0)), Some(DrawFault::Cursor)));
+    expect!(rt; matches!(refusal(alloc, &mut block, (6, 4), (0, 4)), Some(DrawFault::Cursor)));
     // A refusal changes nothing.
     expect!(rt; writes(alloc, &mut block, &["axb漢q", "", "", "xy"], (2, 3), "y"));
     block.forget_cursor();

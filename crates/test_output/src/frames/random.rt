@@ -76,7 +76,7 @@ fn count_near(old: &Sheet, new: &Sheet) -> u32 {
             }
             gap = 0;
         }
-        column += 1;
+        column = column.saturating_add(1);
     }
     count
 }
