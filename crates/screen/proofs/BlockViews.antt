@@ -1,39 +1,18 @@
 -- A block by its cells.
-use Rattle.std.proofs.Common.{◌≡◌, ℕ, zero, suc, ◌+◌, ◌-◌, ◌*◌, ◌<◌, ◌≤◌, ◌^◌, ◌==◌, true, false, cond, List, [], ◌∷◌, ◌++◌, Option, Some, refl, sym, ap, ◌∙◌, subst, append-nil, arith, if◌then◌else◌, drop, length, max, replicate, take}
+use Rattle.std.proofs.Common.{◌≡◌, ℕ, zero, suc, ◌+◌, ◌-◌, ◌*◌, ◌<◌, ◌≤◌, ◌^◌, ◌==◌, false, cond, List, [], ◌∷◌, ◌++◌, Option, Some, refl, sym, ap, ◌∙◌, subst, append-nil, arith, if◌then◌else◌, drop, length, max, replicate, take}
 use Rattle.std.proofs.lemmas.Bool.Decides.{nat_tests}
 use Rattle.std.proofs.lemmas.List.{drop_all, take_all}
 use Rattle.std.proofs.Math.Nat.{max-eq_left, mul-add}
 use Rattle.std.specs.List.{AllByRecursion}
-use Rattle.std.proofs.lemmas.List.Elements.{All-append}
 use Rattle.crossterm_command.specs.Tokens.{Token}
 use Rattle.crossterm_command.specs.declared.color_output.ColorOutput.{ColorOutput}
 use Rattle.screen.specs.Blocks.{BlockView, FitsBlock, IsBlockFrame, TurnsBlock, Visits, beginning, begun_column, blank_rows, grown_column, grown_row, growth, picture_rows, cut_rows, without_rows}
 use Rattle.screen.specs.Buffers.{Picture}
-use Rattle.screen.specs.Cells.{AreLaidOut, Cell, IsPlaced, blank}
+use Rattle.screen.specs.Cells.{AreLaidOut, Cell, blank}
 use Rattle.screen.specs.inside.BlockRows.{IsCellRow, IsInRows}
 use Rattle.screen.specs.inside.Blocks.{PlannedBlock}
 use Rattle.screen.proofs.BlockFrames.{turns_block}
 use Rattle.screen.proofs.CellRows.{picture_laid, rows_below, rows_count}
-use Rattle.screen.proofs.Fitting.{blank_laid_out}
-use Rattle.screen.proofs.Laying.{StayFrom, from_rows, paired_joined, rows_from, stay_joined}
-use Rattle.screen.proofs.Squares.{space_is_narrow}
-
--- ---- blank cells behind others
-
-blank_stays : (width at n : ℕ) → StayFrom width at (replicate n blank)
-blank_stays width at zero = tt
-blank_stays width at (suc n) = (λ wide. let no : true ≡ false = sym wide ∙ space_is_narrow in cc, blank_stays width (at + 1) n)
-
--- Blank rows below others that are laid out.
-pub laid_below : (width n : ℕ) (cells : List Cell) → AreLaidOut width cells → AreLaidOut width (cells ++ replicate n blank)
-laid_below width n cells laid =
-    let blanks = replicate n blank in
-    let empty = blank_laid_out n blanks refl width in
-    record {
-      placed = All-append IsPlaced cells blanks laid.placed empty.placed;
-      paired = paired_joined false cells blanks laid.paired empty.paired;
-      rows = from_rows width (cells ++ blanks) (stay_joined width 0 cells blanks (rows_from width cells laid.rows) (blank_stays width (0 + length cells) n));
-    }
 
 -- The cells that were shown, and blank ones for the rows that are added.
 pub more_cells : (width height w h count : ℕ) (cells new : List Cell) → w ≡ width → height ≤ h → length cells ≡ width * height → count ≡ w * h

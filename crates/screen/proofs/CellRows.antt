@@ -11,7 +11,7 @@ use Rattle.screen.specs.Blocks.{blank_rows, picture_rows, cut_rows}
 use Rattle.screen.specs.inside.BlockRows.{IsCellRow}
 
 -- Cells up to one that isn't the first of two, and those behind it.
-parted : (first : Bool) (n : ℕ) (cells : List Cell) → ArePaired first cells → n < length cells → is_wide (get_or cells n blank) ≡ false → ArePaired first (take (suc n) cells) × ArePaired false (drop (suc n) cells)
+pub parted : (first : Bool) (n : ℕ) (cells : List Cell) → ArePaired first cells → n < length cells → is_wide (get_or cells n blank) ≡ false → ArePaired first (take (suc n) cells) × ArePaired false (drop (suc n) cells)
 parted first n [] a lt e = absurd (omega (arith, lt))
 parted first zero (c ∷ cells) a lt e = ((a.0, e), subst (λ b. ArePaired b cells) e a.1)
 parted first (suc n) (c ∷ cells) a lt e =

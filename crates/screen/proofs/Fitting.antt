@@ -3,6 +3,7 @@ use Rattle.std.proofs.Common.{◌≡◌, ℕ, zero, suc, ◌<◌, ◌==◌, true
 use Rattle.std.proofs.lemmas.Bool.Decides.{nat_tests}
 use Rattle.std.proofs.lemmas.List.{get_or-replicate, length-replicate}
 use Rattle.std.proofs.lemmas.List.Elements.{All-replicate}
+use Rattle.unicode_width.proofs.Computing.{unicode_width}
 use Rattle.unicode_width.specs.Width.{char_width}
 use Rattle.screen.specs.Cells.{AreLaidOut, ArePaired, Cell, FitsCell, IsPrinted, IsPlaced, StayInRows, blank, is_wide, shown_text}
 use Rattle.screen.specs.Grids.{takes_one}
@@ -14,6 +15,14 @@ space_takes_one = refl
 
 pub space_printed : IsPrinted 32
 space_printed = (refl, refl, inl space_takes_one)
+
+replacement_takes_one : takes_one 0xFFFD ≡ true
+unfolding unicode_width
+replacement_takes_one = refl
+
+-- U+FFFD is a character that cells can hold.
+pub replacement_printed : IsPrinted 0xFFFD
+replacement_printed = (refl, refl, inl replacement_takes_one)
 
 -- A character without marks.
 pub held_alone : (c : ℕ) → IsPrinted c → FitsCell (c ∷ [])

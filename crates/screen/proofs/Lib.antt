@@ -5,6 +5,8 @@ pub mod Fitting
 pub mod Halves
 pub mod Laying
 pub mod Taking
+pub mod Behind
+pub mod Wrapping
 pub mod Filling
 pub mod Prints
 pub mod Narrow
@@ -27,6 +29,7 @@ pub mod Rows
 pub mod RowFrames
 pub mod NextFrames
 pub mod CellRows
+pub mod Padding
 pub mod JoinedRows
 pub mod Standing
 pub mod Growing

@@ -44,7 +44,7 @@ pub with_length : (s : ContentStyle) (p : List ℕ) → length (cells_with s p) 
 with_length s [] = refl
 with_length s (c ∷ marks) = length_by (takes_two c) s c marks
 
-with_placed : (s : ContentStyle) (p : List ℕ) → FitsCell p → All IsPlaced (cells_with s p)
+pub with_placed : (s : ContentStyle) (p : List ℕ) → FitsCell p → All IsPlaced (cells_with s p)
 with_placed s [] h = absurd h
 with_placed s (c ∷ marks) h = placed_by (takes_two c) s c marks h
 
@@ -63,7 +63,7 @@ two_columns : (two : Bool) (column width : ℕ) → column + cond two 2 1 ≤ wi
 two_columns true column width le e = omega (arith, le)
 two_columns false column width le e = cc
 
-with_stay : (s : ContentStyle) (p : List ℕ) (width row column : ℕ) → column + part_columns p ≤ width → StayFrom width (row * width + column) (cells_with s p)
+pub with_stay : (s : ContentStyle) (p : List ℕ) (width row column : ℕ) → column + part_columns p ≤ width → StayFrom width (row * width + column) (cells_with s p)
 with_stay s [] width row column le = tt
 with_stay s (c ∷ marks) width row column le =
     stay_by (takes_two c) s c marks width (row * width + column) refl (λ e. not_last width row column (two_columns (takes_two c) column width le e))

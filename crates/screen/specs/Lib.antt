@@ -5,6 +5,7 @@ pub mod Cells
 pub mod Overwriting
 pub mod Texts
 pub mod Buffers
+pub mod Paragraphs
 pub mod Rects
 pub mod Alignments
 pub mod Borders

@@ -4,6 +4,7 @@ ghost use Rattle.std.specs.List.{All};
 ghost use Rattle.screen.specs.Areas.{with_style};
 ghost use Rattle.screen.specs.Buffers.{clipped, column_refusal, filled, filled_with, print_refusal, refusal, with_shown, with_symbol, with_text};
 ghost use Rattle.screen.specs.Cells.{AreLaidOut, ArePaired, IsPrinted, StayInRows, IsPlaced, blank, symbol_fault};
+ghost use Rattle.screen.specs.Paragraphs.{padded};
 ghost use Rattle.screen.specs.Texts.{columns, replaced, replacement_fault, text_columns, text_fault, within, without_marks};
 ghost use Rattle.screen.specs.inside.Edits.{IsEditing, edited};
 ghost use Rattle.screen.specs.Parts.{text_parts};
@@ -103,6 +104,31 @@ pub(crate) fn set_blank<A: Allocator>(
     ensures room { vec_capacity cells.old ≤ vec_capacity cells.new }
 {
     make_blank(cells, count)?;
+    Ok(())
+}
+
+/// Copies so many of some cells as there are places. The places that are left are blank then.
+fn copy_padded(cells: &mut [Cell], others: &[Cell])
+    ensures { cells.new ≡ padded (length cells.old) others.now }
+{
+    let shown = others.len().min(cells.len());
+    let (front, back) = cells.split_at_mut(shown);
+    front.copy_from_slice(&others[0..shown]);
+    fill(back, Cell::blank());
+}
+
+/// Makes so many cells, and copies others into them. If memory is refused, the cells stay.
+fn take_padded<A: Allocator>(
+    cells: &mut Vec<Cell, A>,
+    count: usize,
+    others: &[Cell],
+) -> Result<(), AllocError>
+    ensures ok { OnOk result (cells.new.items ≡ padded count others.now) }
+    ensures err { OnErr result (cells.new.items ≡ cells.old.items) }
+    ensures room { vec_capacity cells.old ≤ vec_capacity cells.new }
+{
+    cells.resize(count, Cell::blank())?;
+    copy_padded(cells, others);
     Ok(())
 }
 
@@ -255,6 +281,29 @@ impl<A: Allocator> Buffer<A> {
     {
         let at = place_at(self.width, column, row);
         overwrite(&mut self.cells, at, cell);
+    }
+
+    /// Takes so many columns and rows, and shows some cells in them, row by row from the top left one. What these don't fill is blank.
+    pub(crate) fn take_rows(
+        &mut self,
+        columns: u16,
+        rows: u16,
+        cells: &[Cell],
+    ) -> Result<(), AllocError>
+        requires { AreLaidOut columns cells.now }
+        ensures ok { OnOk result (self.new ≡ record {
+          width = columns;
+          height = rows;
+          cells = padded (columns * rows) cells.now;
+          room = self.new.room;
+        }) }
+        ensures err { OnErr result (self.new ≡ record self.old { room = self.new.room }) }
+        ensures room { self.old.room ≤ self.new.room }
+    {
+        take_padded(&mut self.cells, count_of(columns, rows), cells)?;
+        self.width = columns;
+        self.height = rows;
+        Ok(())
     }
 
     /// Why nothing is printed in a row: there is none, or another fault.

@@ -43,6 +43,9 @@
 //! A `Rect` is some columns and rows: `Buffer::print_in` aligns a text in one, `Buffer::border` draws lines round it, and `Buffer::set_style` and
 //! `Buffer::fill_area` change all of it. A `ListState` says which entries of a list are in sight.
 //!
+//! A `Paragraph` wraps texts in their styles into rows, for what is longer than a row or a window, as a help page or a message.
+//! `Paragraph::show` makes a buffer show some of these rows, from any one on, so that a program scrolls.
+//!
 //! If a frame broke off within a control sequence, the next one begins with ESC, which ends such a sequence at a terminal. The definitions
 //! speak of whole sequences and don't say so.
 //!
@@ -70,6 +73,7 @@
 //! | of a text as many characters are printed, each with its marks, as have room in the row, and the number of the columns that they took is returned | `Buffer::{print, print_replacing, print_without_marks}` |
 //! | of any text, each character that no cell can hold is replaced, with its marks, by a given one | `Buffer::print_replacing` |
 //! | of a text, the characters of no column are left out, and the others are printed or refused as in `print` | `Buffer::print_without_marks` |
+//! | texts are wrapped: each character, with its marks and in its text's style, is in the last row if that has room, else in the next one, and left out if no row has room; a line feed ends a row, and what no cell can hold becomes U+FFFD; a buffer shows these rows from any one on, with blanks behind the last; refused memory changes nothing | `Paragraph::{push, show}` |
 //! | a text in a row of a rectangle is aligned by the columns that it takes, and has as many characters as have room in the columns that the buffer has of it | `Buffer::print_in` |
 //! | a border is four corners and the lines between them, and what isn't under them stays, but for halves; it is refused if the rectangle isn't within the buffer, has fewer than two columns or rows, or a character of it doesn't take one column | `Buffer::border` |
 //! | a style over a rectangle is the style of each character whose first column is in it, in both of its columns; no character and no other style changes | `Buffer::set_style` |
@@ -90,6 +94,7 @@
 //! | `Overwriting` | 46 | the cells that a character takes, and what becomes of the halves beside them | `Buffer::{set, print, print_replacing, print_without_marks}` |
 //! | `Texts` | 62 | the cells of a text's parts, what has room, and what is replaced in it or left out | `Buffer::{print, print_replacing, print_without_marks}` |
 //! | `Buffers` | 81 | the pictures that buffers hold | `Buffer` |
+//! | `Paragraphs` | 51 | texts that are wrapped, the cells that each part adds, and the picture of some rows | `Paragraph` |
 //! | `Rects` | 41 | a rectangle's columns and rows, what two have in common, what is left without a margin, and two parts | `Rect` |
 //! | `Alignments` | 39 | how many columns of a rectangle a buffer has, and the one that a text begins in | `Buffer::print_in` |
 //! | `Borders` | 70 | the characters of a border, one after another, and when there is none | `Buffer::border` |
@@ -119,6 +124,7 @@ mod lists;
 mod marks;
 mod overwriting;
 mod packed;
+mod paragraphs;
 mod parts;
 mod pens;
 mod planning;
@@ -140,6 +146,7 @@ pub use cells::Cell;
 pub use faults::{CellFault, DrawFault};
 pub use lists::ListState;
 pub use marks::Marks;
+pub use paragraphs::Paragraph;
 pub use rects::Rect;
 pub use screens::Screen;
 pub use strips::Strip;

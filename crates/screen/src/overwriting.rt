@@ -18,7 +18,7 @@ fn emptied(cell: &Cell) -> Cell
 }
 
 /// The second cell of a character that takes two.
-fn covered(style: PackedStyle) -> Cell
+pub(crate) fn covered(style: PackedStyle) -> Cell
     ensures { result ≡ covered style }
 {
     Cell::of('\0', Marks::none(), style)

@@ -30,7 +30,7 @@ pub(crate) enum Editing {
 }
 
 /// Why cells can't hold a part, if they can't.
-fn part_fault(part: &Part) -> Option<CellFault>
+pub(crate) fn part_fault(part: &Part) -> Option<CellFault>
     ensures value { (p : List ℕ) → IsPart part.now p → result ≡ part_fault p }
     ensures printed { result ≡ None → IsPrinted part.now.symbol }
     ensures short { result ≡ None → part.now.is_long ≡ false }

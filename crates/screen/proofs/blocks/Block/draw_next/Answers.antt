@@ -2,7 +2,8 @@ use Rattle.std.proofs.Common.{◌≡◌, inl, inr, ◌-◌, ◌*◌, ◌++◌, �
 use Rattle.std.specs.Vec.{vec_capacity, vec_len}
 use Rattle.screen.specs.Blocks.{PlaceFits}
 use Rattle.screen.specs.Cells.{AreLaidOut, blank}
-use Rattle.screen.proofs.BlockViews.{block_fits, block_written, fits_block, forgotten_as, held_after, laid_below, more_cells, same_but_room}
+use Rattle.screen.proofs.BlockViews.{block_fits, block_written, fits_block, forgotten_as, held_after, more_cells, same_but_room}
+use Rattle.screen.proofs.Behind.{laid_below}
 use Rattle.screen.proofs.blocks.Block.draw_next.Goals.{then-width-self-via-then-width-self, then-width-self-via-else-width-self+then-height-self}
 use Rattle.screen.proofs.blocks.Block.draw_next.Goals as goal
 
