@@ -7,6 +7,7 @@ mod failing;
 mod growth;
 mod marks;
 mod paper;
+mod paragraphs;
 mod prints;
 mod random;
 mod refused;
