@@ -46,7 +46,7 @@ def window_without_a_size():
     for name, typed, shown in (('edit', b'abc\x03', b'abc'), ('browse', b'\x1b', '\x1b[13;1H│VPA'.encode())):
         terminal = Terminal(f'{WITH} {program(name)}', size=(0, 0))
         try:
-            terminal.until({'edit': b'>\x1b[0m\x1b[3G', 'browse': b'CBT'}[name])
+            terminal.until({'edit': b'> ', 'browse': b'CBT'}[name])
             terminal.send(typed)
             equal(f'status of {name}', terminal.end(), 0)
             if shown not in terminal.out:

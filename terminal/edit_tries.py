@@ -8,13 +8,31 @@ from debug_lines import rows_in
 from pseudo import WITH, Terminal, Wrong, equal, program, tmux
 
 # How a line's first frame begins, and what erases the rows below before it, after a resize. Later ones are what changed alone.
-FIRST = b'\x1b[?2026h\x1b[0m\x1b[1G\x1b[K'
+FIRST = b'\x1b[0m\x1b[?25h\x1b[1G\x1b[K'
 ERASED = b'\x1b[1G\x1b[J'
 
 
-def ended(column):
-    """How a frame ends with the cursor in a column from 1."""
-    return b'\x1b[0m\x1b[%dG\x1b[?25h\x1b[?2026l' % column
+def rows_of(text, columns):
+    """The rows of a text in a window of so many columns: the last column isn't used, and a row that is full has ended."""
+    rows, at = [''], 0
+    for c in text:
+        width = 2 if c == '\u6f22' else 1
+        if at + width > columns - 1:
+            rows.append('')
+            at = 0
+        rows[-1] += c
+        at += width
+        if at == columns - 1:
+            rows.append('')
+            at = 0
+    return rows
+
+
+def drawn(text, columns):
+    """The first frame of a text of ASCII, with the cursor behind it."""
+    rows = [row.encode() for row in rows_of(text, columns)]
+    more = len(rows) - 1
+    return FIRST + b'\r\n\x1b[K' * more + (b'\x1b[%dA' % more if more else b'') + b'\x1b[1G\x1b[1B'.join(rows)
 
 
 def edit_keeps_the_order():
@@ -26,7 +44,7 @@ def edit_keeps_the_order():
         terminal.send(b'ab')
         time.sleep(0.1)
         terminal.send(b'\x1b[3;3Rcd')
-        terminal.until(b'\x1b[6n\r\n' + FIRST + b'\x1b[1G\x1b[0m>' + ended(3))
+        terminal.until(b'\x1b[6n\r\n' + FIRST + b'> ')
         terminal.send(b'\x1b[D\x1b[D\x1b[DX\x1b[HY\x1b[FZ\x7f\x1b[D\x1b[3~' + '\u00e9\u6f22'.encode())
         terminal.send(b'\r')
         terminal.until('7: YaXbc\u00e9\u6f22'.encode())
@@ -36,7 +54,7 @@ def edit_keeps_the_order():
         terminal.resize(40, 24)
         terminal.until(b'\x1b[6n', times=2)
         terminal.send(b'\x1b[6;7R')
-        terminal.until(b'\x1b[6n' + ERASED + FIRST + b'\x1b[1G\x1b[0m> next' + ended(7))
+        terminal.until(b'\x1b[6n' + ERASED + FIRST + b'> next')
         terminal.send(b'!\r')
         terminal.until(b'5: next!')
         terminal.send(b'\x03')
@@ -118,7 +136,7 @@ def edit_without_answers():
         terminal.send(b'more')
         terminal.until(b'more')
         terminal.resize(40, 24)
-        terminal.until(ERASED + FIRST + b'\x1b[1G\x1b[0m> more' + ended(7), limit=1)
+        terminal.until(ERASED + FIRST + b'> more', limit=1)
         terminal.send(b'\x03')
         equal('status', terminal.end(), 0)
         equal('questions for the place', terminal.out.count(b'\x1b[6n'), 1)
@@ -132,18 +150,19 @@ def edit_after_a_resize():
     """A window of other widths: by the cursor's place then, the terminal has wrapped the line anew, or cut it, or it isn't known."""
     terminal = Terminal(f'{WITH} {program("edit")}')
     text = b'x' * 90
-    shown = lambda columns: ERASED + FIRST + b'\x1b[1G\x1b[0m> ' + text[: columns - 4] + b'\x1b[0m'
     try:
         terminal.until(b'\x1b[K')
         terminal.send(text)
-        # A letter is a byte. The last 14 scroll a text that looks the same.
-        terminal.until(b'x' * 76)
-        # The window's columns, the cursor's column in it, and what moves up to the line's first row.
-        for columns, column, up in ((60, 19, b'\x1b[1A'), (50, 50, b''), (20, 9, b'\x1b[2A'), (39, 19, b''), (12, 1, b''), (100, 11, b'')):
+        # A letter is a byte, but for the last one of a row.
+        terminal.until(b'\x1b[79Gx\x1b[1G\x1b[1B' + b'x' * 13)
+        # The window's columns, the cursor's column in it, and how many rows above the cursor's the first one is. The cursor was behind 13 characters
+        # of the second row, and then behind 33, 5, 43, 16, 7, 4 and 92 of the last one. By the second window the terminal
+        # wraps rows. The fourth one's column is by no terminal, and the last one's is cut.
+        for columns, column, up in ((60, 14, 1), (30, 4, 3), (50, 6, 3), (20, 8, 1), (18, 17, 8), (12, 8, 10), (100, 5, 8), (60, 60, 0)):
             terminal.place = (5, column)
             from_ = len(terminal.out)
             terminal.resize(columns, 24)
-            terminal.until(b'\x1b[6n' + up + shown(columns))
+            terminal.until(b'\x1b[6n' + (b'\x1b[%dA' % up if up else b'') + ERASED + drawn('> ' + text.decode(), columns))
             equal(f'{columns} columns', terminal.out[from_:].count(b'\x1b[6n'), 1)
         terminal.send(b'\r')
         terminal.until(b'90: ' + text)
@@ -152,13 +171,6 @@ def edit_after_a_resize():
         terminal.none_left()
     finally:
         terminal.close()
-
-
-def last_of(text, room):
-    """The last characters that have room in so many columns."""
-    while sum(2 if it == '\u6f22' else 1 for it in text) > room:
-        text = text[1:]
-    return text
 
 
 def edit_in_tmux():
@@ -172,7 +184,7 @@ def edit_in_tmux():
             run('send-keys', '-l', '-t', 't', text)
             for columns in (200, 100, 60, 150, 41, 190):
                 run('resize-window', '-t', 't', '-x', str(columns))
-                want = [*before, '> ' + last_of(text, columns - 4)]
+                want = [*before, *(row for row in rows_of('> ' + text, columns) if row)]
                 end = time.time() + 5
                 while rows_in(run, '-S', '-') != want and time.time() < end:
                     time.sleep(0.05)

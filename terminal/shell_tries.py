@@ -8,7 +8,6 @@ import stat
 import tempfile
 import time
 
-from edit_tries import ended
 from ends import script_of
 from pseudo import WITH, Terminal, Wrong, equal, program
 
@@ -18,7 +17,7 @@ def shell(path, said=''):
     """A terminal with a shell that shows its prompt. Before that it has said this, after its name."""
     terminal = Terminal(f'{WITH} {program("shell")} {path}')
     try:
-        terminal.until(b'$' + ended(3))
+        terminal.until(b'$ ')
         if said:
             equal(f'{said} in {terminal.out!r}', f'shell: {said}\r'.encode() in terminal.out, True)
         yield terminal

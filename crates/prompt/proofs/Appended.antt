@@ -1,8 +1,8 @@
 -- What the file of a history grows by.
 use Rattle.std.proofs.Common.{◌≡◌, ℕ, List, [], ◌∷◌, ◌++◌, length, suc, take, refl, inl, inr, ap, arith, sym}
 use Rattle.std.proofs.KnownBytes.{Appends-nil}
-use Rattle.std.specs.Prelude.{◌⊎◌, Err, Ok, OnErr, OnOk, Option, Result, Some, None}
-use Rattle.std.specs.Io.KnownBytes.{Appends, Keeps}
+use Rattle.std.specs.Prelude.{◌⊎◌, Err, Ok, OnErr, OnOk, Option, Result}
+use Rattle.std.specs.Io.KnownBytes.{Keeps}
 use Rattle.crossterm_command.specs.Writing.{AppendsFront}
 use Rattle.prompt.proofs.Drawn.{kept}
 use Rattle.prompt.specs.Histories.{EndsLastLine, EndsAndTakes, EndsAndTakesAll, LosesNone, TakesLines, appended, partly}

@@ -1,20 +1,16 @@
 -- The bytes of a frame.
-use Rattle.std.proofs.Common.{◌≡◌, inl, inr, ℕ, ◌<◌, Bool, true, false, List, [], Option, Some, None, Result, Ok, Err, OnOk, refl, sym, subst, ◌∙◌, append-nil}
+use Rattle.std.proofs.Common.{◌≡◌, inl, inr, ℕ, ◌<◌, Bool, false, List, [], Option, None, refl, sym, subst, ap, ◌∙◌, append-nil, length}
 use Rattle.std.proofs.KnownBytes.{Appends-kept, Appends-nil}
 use Rattle.std.specs.Io.KnownBytes.{Appends, Keeps}
 use Rattle.crossterm.specs.Functions.{AppendsReading}
 use Rattle.crossterm_command.specs.Tokens.{Token}
-use Rattle.crossterm_command.specs.declared.color_output.ColorOutput.{ColorOutput}
 use Rattle.crossterm_command.specs.declared.color_output.ColorOutput.TheVariants.{Enabled}
 use Rattle.line_editor.specs.Splits.{Split}
 use Rattle.screen.specs.declared.faults.DrawFault.{DrawFault}
 use Rattle.screen.specs.declared.faults.DrawFault.TheVariants.{Size, Cursor, Memory, Command}
+use Rattle.screen.specs.Blocks.{BlockNotDrawn, BlockView, FitsBlock, IsBlockFrame, with_rows}
 use Rattle.screen.specs.Buffers.{Picture}
-use Rattle.screen.specs.Drawings.{knows_cells}
-use Rattle.screen.specs.Strips.{IsFrameBy, IsNextFrame, IsOneRow, IsRowFrame, StripView, RowNotDrawn, with_row, without_cursor}
-use Rattle.prompt.specs.Drawing.{IsDrawn, IsNextDrawn}
-use Rattle.prompt.specs.Frames.{Area, Draws, DrawsFront, IsLineFrame, area, drawn, narrow}
-use Rattle.prompt.specs.Pictures.{IsPicture}
+use Rattle.prompt.specs.Frames.{Area, Draws, DrawsFront, IsLineFrame, IsNewArea, IsLinePicture, drawn, narrow}
 
 -- Bytes that stayed are bytes to which none were added.
 pub kept : (old new : Option (List ℕ)) → Keeps old new → Appends old new []
@@ -23,52 +19,72 @@ kept old new k = Appends-kept old old new [] (Appends-nil old) k
 pub same : (old new : Option (List ℕ)) → new ≡ old → Appends old new []
 same old new is = subst (λ x. Appends old x []) (sym is) (Appends-nil old)
 
--- ---- a frame that relies on nothing
+-- An area at first.
+abbrev pub new_area : Bool → Area
+new_area wraps = record {
+  block = record { width = 0; colors = Enabled; rows = []; row = 0; column = None; room = 0 };
+  wraps = wraps;
+  most = 0;
+  has_hint = false;
+  last = 0;
+}
 
-whole_by : (known : Bool) (s : StripView) (colors : ColorOutput) (p : Picture) (cursor : Option ℕ) (ts : List Token) → IsFrameBy known None (without_cursor s) colors p cursor ts → IsRowFrame s colors p cursor ts
-whole_by true s colors p cursor ts frame = record { turns = frame.turns; frame = frame.frame }
-whole_by false s colors p cursor ts frame = record { turns = frame.turns; frame = frame.frame }
+pub new_is : (wraps : Bool) → IsNewArea wraps (new_area wraps)
+new_is wraps = ((refl, refl, refl), refl, refl)
 
--- If the cursor's column isn't known, a frame right behind the last one relies on nothing.
-pub as_drawn : (p : Picture) (column : ℕ) (s t : StripView) (old new : Option (List ℕ)) → IsNextDrawn p column (without_cursor s) t old new → IsDrawn p column s t old new
-as_drawn p column s t old new (is, ts, read, frame) = (is, ts, read, whole_by (knows_cells s.drawn Enabled) s Enabled p (Some column) ts frame)
-
-pub ok_as : {T E : Type 0} {P Q : Type 0} (r : Result T E) → (P → Q) → OnOk r P → OnOk r Q
-ok_as (Ok x) f p = f p
-ok_as (Err e) f p = tt
-
--- ---- a frame of a line
-
-module _ (prompt : List ℕ) (line : Split) (hint : List ℕ) (s : StripView) (has : Bool) where
+module _ (prompt : List ℕ) (line : Split) (hint : List ℕ) (a : Area) where
   -- Nothing was written.
-  pub none : (old new : Option (List ℕ)) → Appends old new [] → DrawsFront prompt line hint (area s has) old new
-  none old new grown = (area s has, [], [], grown, inl refl)
+  pub none : (old new : Option (List ℕ)) → Appends old new [] → DrawsFront prompt line hint a old new
+  none old new grown = (a, [], [], grown, inl refl)
 
   -- All of a frame is a beginning of it.
-  pub whole : (b : Area) (old new : Option (List ℕ)) → Draws prompt line hint (area s has) b old new → DrawsFront prompt line hint (area s has) old new
-  whole b old new (bytes, grown, frame) =
-      (b, bytes, [], grown, inr (subst (IsLineFrame prompt line hint (area s has) b) (sym (append-nil bytes)) frame))
+  pub whole : (b : Area) (old new : Option (List ℕ)) → Draws prompt line hint a b old new → DrawsFront prompt line hint a old new
+  whole b old new (bytes, grown, frame) = (b, bytes, [], grown, inr (subst (IsLineFrame prompt line hint a b) (sym (append-nil bytes)) frame))
 
   -- A window of one column.
-  pub in_none : (old new : Option (List ℕ)) → s.width ≡ 0 → Keeps old new → Draws prompt line hint (area s has) (area s has) old new
+  pub in_none : (old new : Option (List ℕ)) → a.block.width ≡ 0 → Keeps old new → Draws prompt line hint a a old new
   in_none old new is k = ([], kept old new k, narrow is refl refl)
 
-  -- A picture of the strip's width.
-  fits : (p : Picture) (width column : ℕ) (h : Bool) → p.width ≡ width → IsOneRow s p → IsPicture width prompt line hint p column h → IsPicture s.width prompt line hint p column h
-  fits p width column h same one pic = subst (λ n. IsPicture n prompt line hint p column h) (sym same ∙ one.0) pic
-
-  -- A frame that was flushed, or not.
-  pub in_row : (t : StripView) (h : Bool) (p : Picture) (width column : ℕ) (old mid new : Option (List ℕ)) → 0 < s.width → p.width ≡ width → IsPicture width prompt line hint p column h
-      → IsOneRow s p → t ≡ with_row s Enabled p.cells (Some column) → (ts : List Token) × AppendsReading old mid ts × IsNextFrame s Enabled p (Some column) ts → Keeps mid new
-      → Draws prompt line hint (area s has) (area t h) old new
-  in_row t h p width column old mid new wide same pic one is (ts, (bytes, grown, reads, only), frame) k =
-      (bytes, Appends-kept old mid new bytes grown k, drawn p column ts wide one (fits p width column h same one pic) is reads.1 frame)
+  -- A frame that was flushed.
+  pub in_rows : (t : BlockView) (h : Bool) (last : ℕ) (p : Picture) (column row : ℕ) (old mid new : Option (List ℕ)) → 0 < a.block.width → FitsBlock a.block p
+      → IsLinePicture a.wraps a.most (length a.block.rows) a.block.width prompt line hint p column row h last → t ≡ record (with_rows a.block p column row) { room = t.room }
+      → (ts : List Token) × AppendsReading old mid ts × IsBlockFrame a.block p column row ts → Keeps mid new
+      → Draws prompt line hint a (record a { block = t; has_hint = h; last = last }) old new
+  in_rows t h last p column row old mid new wide fits shows is (ts, (bytes, grown, reads, only), frame) k = (
+    bytes,
+    Appends-kept old mid new bytes grown k,
+    drawn p column row t.room ts wide fits shows (ap (λ (x : BlockView). record a { block = x; has_hint = h; last = last }) is) reads.1 frame,
+  )
 
   -- A frame that wasn't drawn.
-  pub cut : (fault : DrawFault) (t : StripView) (h : Bool) (p : Picture) (width column : ℕ) (old new : Option (List ℕ)) → 0 < s.width → p.width ≡ width → IsPicture width prompt line hint p column h
-      → RowNotDrawn fault s t p (Some column) (IsNextFrame s Enabled p (Some column)) old new → DrawsFront prompt line hint (area s has) old new
-  cut Size t h p width column old new wide same_width pic (size, strip, is) = none old new (same old new is)
-  cut Cursor t h p width column old new wide same_width pic (size, inside, strip, is) = none old new (same old new is)
-  cut Memory t h p width column old new wide same_width pic refused = absurd refused
-  cut (Command fault) t h p width column old new wide same_width pic (size, inside, strip, ts, frame, part) =
-      (area (with_row s Enabled p.cells (Some column)) h, part.front, part.rest, part.grown, inr (drawn p column ts wide size (fits p width column h same_width size pic) refl part.split frame))
+  pub cut : (fault : DrawFault) (t : BlockView) (h : Bool) (last : ℕ) (p : Picture) (column row : ℕ) (old new : Option (List ℕ)) → 0 < a.block.width
+      → IsLinePicture a.wraps a.most (length a.block.rows) a.block.width prompt line hint p column row h last → BlockNotDrawn fault a.block t p column row old new
+      → DrawsFront prompt line hint a old new
+  cut Size t h last p column row old new wide shows (size, block, is) = none old new (same old new is)
+  cut Cursor t h last p column row old new wide shows (size, place, block, is) = none old new (same old new is)
+  cut Memory t h last p column row old new wide shows (size, place, room, block, is) = none old new (same old new is)
+  cut (Command fault) t h last p column row old new wide shows (size, place, block, ts, frame, part) = (
+    record a { block = with_rows a.block p column row; has_hint = h; last = last },
+    part.front,
+    part.rest,
+    part.grown,
+    inr (drawn p column row a.block.room ts wide size shows refl part.split frame),
+  )
+
+  -- The same of an area that was filled before: its block, its rows and their number are those of the one before.
+  pub drawn_from : (b : Area) (t : BlockView) (p : Picture) (column row : ℕ) (old mid new : Option (List ℕ)) → 0 < a.block.width → b.block ≡ a.block → b.wraps ≡ a.wraps → b.most ≡ a.most
+      → IsLinePicture a.wraps a.most (length a.block.rows) a.block.width prompt line hint p column row b.has_hint b.last → FitsBlock b.block p
+      → t ≡ record (with_rows b.block p column row) { room = t.room } → (ts : List Token) × AppendsReading old mid ts × IsBlockFrame b.block p column row ts → Keeps mid new
+      → Draws prompt line hint a (record b { block = t }) old new
+  drawn_from b t p column row old mid new wide block wraps most shows fits is frame k =
+      let by_block = in_rows t b.has_hint b.last p column row old mid new wide (subst (λ (x : BlockView). FitsBlock x p) block fits) shows
+      (is ∙ ap (λ (x : BlockView). record (with_rows x p column row) { room = t.room }) block)
+      (subst (λ (x : BlockView). (ts : List Token) × AppendsReading old mid ts × IsBlockFrame x p column row ts) block frame) k in
+      subst (λ (w : Bool). Draws prompt line hint a (record { block = t; wraps = w; most = b.most; has_hint = b.has_hint; last = b.last }) old new) (sym wraps)
+      (subst (λ (m : ℕ). Draws prompt line hint a (record { block = t; wraps = a.wraps; most = m; has_hint = b.has_hint; last = b.last }) old new) (sym most) by_block)
+
+  pub not_drawn_from : (b : Area) (fault : DrawFault) (t : BlockView) (p : Picture) (column row : ℕ) (old new : Option (List ℕ)) → 0 < a.block.width → b.block ≡ a.block
+      → IsLinePicture a.wraps a.most (length a.block.rows) a.block.width prompt line hint p column row b.has_hint b.last → BlockNotDrawn fault b.block t p column row old new
+      → DrawsFront prompt line hint a old new
+  not_drawn_from b fault t p column row old new wide block shows refused =
+      cut fault t b.has_hint b.last p column row old new wide shows (subst (λ (x : BlockView). BlockNotDrawn fault x t p column row old new) block refused)

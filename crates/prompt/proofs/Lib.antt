@@ -8,6 +8,9 @@ pub mod Pictures
 pub mod Fitting
 pub mod Showing
 pub mod Drawn
+pub mod DrawnRow
 pub mod Sending
 pub mod Querying
+pub mod Leaving
+pub mod Laid
 pub mod Appended

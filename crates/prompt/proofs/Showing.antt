@@ -1,5 +1,5 @@
 -- One more piece, and one more event, in the list of what was written.
-use Rattle.std.proofs.Common.{◌≡◌, inl, inr, ℕ, ◌++◌, Bool, true, false, cond, List, [], ◌∷◌, Option, Some, Result, Ok, Err, OnErr, OnOk, refl, sym, subst, append_assoc, append-nil}
+use Rattle.std.proofs.Common.{◌≡◌, inl, inr, ℕ, ◌≤◌, ◌++◌, Bool, true, false, cond, List, [], ◌∷◌, Option, Some, Result, Ok, Err, OnErr, OnOk, refl, sym, subst, append_assoc, append-nil}
 use Rattle.std.proofs.KnownBytes.{Appends-nil, Appends-trans}
 use Rattle.std.specs.Io.KnownBytes.{Appends}
 use Rattle.std.specs.declared.io.ErrorKind.{ErrorKind}
@@ -15,8 +15,8 @@ use Rattle.crossterm_command.specs.Writing.{AppendsFront}
 use Rattle.line_editor.specs.States.{EditorState}
 use Rattle.line_editor.specs.Turns.{Answer, Going, Clear, Ring, IsGoing}
 use Rattle.prompt.specs.Asking.{GoesOn, unread, further, placed, stopped, refused, after_event, answer_to}
-use Rattle.prompt.specs.Drawing.{clearing, leaving}
-use Rattle.prompt.specs.Frames.{Area, Draws, DrawsFront, IsUnseen, bell, erasure, unseen}
+use Rattle.prompt.specs.Drawing.{clearing}
+use Rattle.prompt.specs.Frames.{Area, Draws, DrawsFront, IsNewArea, bell, erasure, leaving_area, resized_area, unseen}
 use Rattle.prompt.specs.Lines.{going_on_events}
 use Rattle.prompt.specs.Written.{GoesOnShown, HasWritten, HasWrittenFront, LineEndsShown, PromptView, Stage, Shows, Due, Clears, Resized, StopsShown, Pieces, nothing_yet, shown, moved_on, missed, overflowed, rung, let_clear, cleared, resized, asked, erased, hint_for, resizes, overflows, prompt_for}
 use Rattle.prompt.specs.inside.Turning.{MayAsk, MayQuery, TakesAs, stage_after}
@@ -41,7 +41,7 @@ module _ (look : PromptView) (w : EditorState) where
   moved contents es k stage out x y is h = subst (λ v. HasWritten look w es k stage out (contents v)) (sym is) h
 
   -- Nothing was written yet.
-  pub starts : (a : Area) (old : Option (List ℕ)) → IsUnseen a → HasWritten look w [] w (Due a false) old old
+  pub starts : (a : Area) (old : Option (List ℕ)) → IsNewArea look.wraps a → HasWritten look w [] w (Due a false) old old
   starts a old fresh = record { bytes = []; appended = Appends-nil old; writes = nothing_yet a fresh }
 
   -- All of it is a beginning.
@@ -100,21 +100,21 @@ module _ (look : PromptView) (w : EditorState) where
   rings_front es k a out old new h part = part_of es k (Shows a false) out old new h.bytes bell h.appended part (rung es k a h.bytes h.writes)
 
   -- A clearing.
-  pub empties : (es : List Seen) (k : EditorState) (a : Area) (out old new : Option (List ℕ)) → HasWritten look w es k (Clears a) out old → Appends old new clearing
-      → HasWritten look w es k (Due (unseen a) false) out new
-  empties es k a out old new h grown = record {
+  pub empties : (es : List Seen) (k : EditorState) (a : Area) (room : ℕ) (out old new : Option (List ℕ)) → HasWritten look w es k (Clears a) out old → Appends old new clearing
+      → HasWritten look w es k (Due (unseen room a) false) out new
+  empties es k a room out old new h grown = record {
     bytes = h.bytes ++ clearing;
     appended = Appends-trans out old new h.bytes clearing h.appended grown;
-    writes = cleared es k a h.bytes h.writes;
+    writes = cleared es k a room h.bytes h.writes;
   }
 
   pub empties_front : (es : List Seen) (k : EditorState) (a : Area) (out old new : Option (List ℕ)) → HasWritten look w es k (Clears a) out old → AppendsFront old new clearing
       → HasWrittenFront look w es k out new
-  empties_front es k a out old new h part = part_of es k (Due (unseen a) false) out old new h.bytes clearing h.appended part (cleared es k a h.bytes h.writes)
+  empties_front es k a out old new h part = part_of es k (Due (unseen 0 a) false) out old new h.bytes clearing h.appended part (cleared es k a 0 h.bytes h.writes)
 
   -- One more event that was taken.
   takes_as : (b : Bool) (es : List Seen) (k : EditorState) (a : Area) (e : Seen) (out old : Option (List ℕ)) → HasWritten look w es k (Shows a false) out old → overflows look k e ≡ false
-      → answer_to (look.given k e) k ≡ Going → resizes e ≡ b → HasWritten look w (es ++ e ∷ []) (after_event (look.given k e) k) (cond b (Resized false) (Due a false)) out old
+      → answer_to (look.given k e) k ≡ Going → resizes e ≡ b → HasWritten look w (es ++ e ∷ []) (after_event (look.given k e) k) (cond b (Resized a false) (Due a false)) out old
   takes_as true es k a e out old h room on is = record { bytes = h.bytes; appended = h.appended; writes = resized es k a h.bytes e h.writes room on is }
   takes_as false es k a e out old h room on is = record { bytes = h.bytes; appended = h.appended; writes = moved_on es k a h.bytes e h.writes room on is }
 
@@ -142,35 +142,35 @@ module _ (look : PromptView) (w : EditorState) where
       subst (λ (x : EditorState). HasWritten look w (es ++ e ∷ []) x (Clears a) out old) (sym is) (record { bytes = h.bytes; appended = h.appended; writes = let_clear es k a h.bytes e h.writes on })
 
   -- The query, if it was made.
-  pub queried : (asks : Bool) (es : List Seen) (k : EditorState) (out old new : Option (List ℕ)) → HasWritten look w es k (Resized false) out old → (asks ≡ true → look.asks ≡ true)
-      → MayQuery asks old new → (was : Bool) × HasWritten look w es k (Resized was) out new
-  queried asks es k out old new h may (inl (is, part)) = (
+  pub queried : (asks : Bool) (es : List Seen) (k : EditorState) (a : Area) (out old new : Option (List ℕ)) → HasWritten look w es k (Resized a false) out old → (asks ≡ true → look.asks ≡ true)
+      → MayQuery asks old new → (was : Bool) × HasWritten look w es k (Resized a was) out new
+  queried asks es k a out old new h may (inl (is, part)) = (
     true,
     record {
       bytes = h.bytes ++ part.front;
       appended = Appends-trans out old new h.bytes part.front h.appended part.grown;
-      writes = asked es k h.bytes part.front part.rest h.writes (may is) part.split;
+      writes = asked es k a h.bytes part.front part.rest h.writes (may is) part.split;
     },
   )
-  queried asks es k out old new h may (inr nothing) = (false, still es k (Resized false) out old new h nothing)
+  queried asks es k a out old new h may (inr nothing) = (false, still es k (Resized a false) out old new h nothing)
 
   -- An erasure.
-  pub erases : (es : List Seen) (k : EditorState) (rows : ℕ) (a : Area) (out old new : Option (List ℕ)) → ((was : Bool) × HasWritten look w es k (Resized was) out old) → IsUnseen a
-      → Appends old new (erasure rows) → HasWritten look w es k (Due a false) out new
-  erases es k rows a out old new (was, h) fresh grown = record {
+  pub erases : (es : List Seen) (k : EditorState) (rows width most room : ℕ) (a : Area) (out old new : Option (List ℕ)) → ((was : Bool) × HasWritten look w es k (Resized a was) out old)
+      → a.block.row ≤ rows → Appends old new (erasure rows) → HasWritten look w es k (Due (resized_area width most room a) false) out new
+  erases es k rows width most room a out old new (was, h) above grown = record {
     bytes = h.bytes ++ erasure rows;
     appended = Appends-trans out old new h.bytes (erasure rows) h.appended grown;
-    writes = erased es k h.bytes was rows a h.writes fresh;
+    writes = erased es k a h.bytes was rows width most room h.writes above;
   }
 
-  pub erases_front : (es : List Seen) (k : EditorState) (rows : ℕ) (a : Area) (out old new : Option (List ℕ)) → ((was : Bool) × HasWritten look w es k (Resized was) out old) → IsUnseen a
-      → AppendsFront old new (erasure rows) → HasWrittenFront look w es k out new
-  erases_front es k rows a out old new (was, h) fresh part =
-      part_of es k (Due a false) out old new h.bytes (erasure rows) h.appended part (erased es k h.bytes was rows a h.writes fresh)
+  pub erases_front : (es : List Seen) (k : EditorState) (rows : ℕ) (a : Area) (out old new : Option (List ℕ)) → ((was : Bool) × HasWritten look w es k (Resized a was) out old)
+      → a.block.row ≤ rows → AppendsFront old new (erasure rows) → HasWrittenFront look w es k out new
+  erases_front es k rows a out old new (was, h) above part =
+      part_of es k (Due (resized_area 0 0 0 a) false) out old new h.bytes (erasure rows) h.appended part (erased es k a h.bytes was rows 0 0 0 h.writes above)
 
   -- All that was written until a question.
-  pub all_queried : (es : List Seen) (k : EditorState) (out new : Option (List ℕ)) → ((was : Bool) × HasWritten look w es k (Resized was) out new) → HasWrittenFront look w es k out new
-  all_queried es k out new (was, h) = all_of es k (Resized was) out new h
+  pub all_queried : (es : List Seen) (k : EditorState) (a : Area) (out new : Option (List ℕ)) → ((was : Bool) × HasWritten look w es k (Resized a was) out new) → HasWrittenFront look w es k out new
+  all_queried es k a out new (was, h) = all_of es k (Resized a was) out new h
 
 module _ {S : Type 0} (drawn : S → List SourceAnswer → S → Type 0) (ask : S → List (Option Duration)) (look : PromptView) (v : Known S) (w : EditorState) where
   -- A line goes on, and these events were read.
@@ -201,7 +201,7 @@ module _ {S : Type 0} (drawn : S → List SourceAnswer → S → Type 0) (ask : 
 
   -- The line ended, and its area was left.
   pub ends_shown : (p u : Known S) (k z : EditorState) (e : Seen) (a : Answer) (x : Area) (out old new : Option (List ℕ)) → GoesOnShown drawn ask look v w p k x out old
-      → Reads drawn ask filters.Event p u (Came (Some e)) → TakesAs a (look.given k e) k z → AppendsFront old new (leaving x.has_hint) → LineEndsShown drawn ask look v w a u z out new
+      → Reads drawn ask filters.Event p u (Came (Some e)) → TakesAs a (look.given k e) k z → AppendsFront old new (leaving_area x) → LineEndsShown drawn ask look v w a u z out new
   ends_shown p u k z e a x out old new g reads takes part = record {
     ends = record { before = p; line = k; event = e; goes = g.goes; reads = reads; ends = takes.0; left = takes.1 };
     area = x;

@@ -1,39 +1,62 @@
--- The texts that show a line: a frame of the cursor's row, and those between frames.
-use Rattle.std.specs.Prelude.{◌≡◌, ◌⊎◌, ℕ, ◌<◌, ◌==◌, ◌++◌, Bool, if◌then◌else◌, List, [], ◌∷◌, Option, Some, None}
+-- The texts that show a line: a frame of the rows from the cursor's on, and those between frames.
+use Rattle.std.specs.Prelude.{◌≡◌, ◌⊎◌, ℕ, ◌<◌, ◌==◌, ◌++◌, Bool, true, false, if◌then◌else◌, length, List, [], ◌∷◌, Option, None}
 use Rattle.std.specs.Io.KnownBytes.{Appends}
 use Rattle.crossterm_command.specs.Tokens.{Token, text_of}
 use Rattle.crossterm_command.specs.declared.color_output.ColorOutput.TheVariants.{Enabled}
 use Rattle.crossterm.specs.Sequences.{by, clear}
-use Rattle.crossterm.specs.declared.terminal.ClearType.TheVariants.{FromCursorDown}
+use Rattle.crossterm.specs.declared.terminal.ClearType.TheVariants.{FromCursorDown, UntilNewLine}
 use Rattle.line_editor.specs.Splits.{Split}
+use Rattle.screen.specs.Blocks.{BlockView, FitsBlock, IsBlockFrame, to_row, with_rows, without_rows}
 use Rattle.screen.specs.Buffers.{Picture}
-use Rattle.screen.specs.Strips.{StripView, IsNextFrame, IsOneRow, with_row, without_row}
+use Rattle.prompt.specs.declared.rows.Rows.{Rows}
 use Rattle.prompt.specs.Pictures.{IsPicture}
+use Rattle.prompt.specs.Wrapping.{IsWrapped}
 
--- The part of a terminal in which a line is shown: the cursor's row.
+-- The part of a terminal in which a line is shown: some rows, from the one on in which the cursor was at first.
 pub record Area : Type 0 where
-  pub strip : StripView
+  pub block : BlockView
+  -- Whether the line is wrapped. If it isn't, it is shown in one row.
+  pub wraps : Bool
+  -- How many rows it takes at most: those of the window.
+  pub most : ℕ
   -- Whether a hint is shown behind the line.
   pub has_hint : Bool
+  -- The last row of the block that the line takes.
+  pub last : ℕ
 
--- The area of a strip, in which a hint is shown or not.
-abbrev pub area : StripView → Bool → Area
-area strip has_hint = record { strip = strip; has_hint = has_hint }
+-- The area of rows that are drawn.
+abbrev pub area_of : Rows → Area
+area_of r = record { block = r.block; wraps = r.wraps; most = r.most; has_hint = r.has_hint; last = r.last }
 
 -- Nothing is known of what the area shows.
 abbrev pub IsUnseen : Area → Type 0
-IsUnseen a = a.strip.drawn ≡ None
+IsUnseen a = (a.block.rows ≡ []) × (a.block.row ≡ 0) × (a.block.column ≡ None)
+
+-- An area at first: nothing is known of it, and colours are written.
+abbrev pub IsNewArea : Bool → Area → Type 0
+IsNewArea wraps a = IsUnseen a × (a.wraps ≡ wraps) × (a.block.colors ≡ Enabled)
+
+-- The same area in a window of another size: its block has this width, and nothing is known of what it shows.
+abbrev pub resized_area : ℕ → ℕ → ℕ → Area → Area
+resized_area width most room a = record a { block = record (without_rows a.block) { width = width; room = room }; most = most }
 
 -- The same area, but nothing is known of what it shows.
-abbrev pub unseen : Area → Area
-unseen a = area (without_row a.strip) a.has_hint
+abbrev pub unseen : ℕ → Area → Area
+unseen room a = resized_area a.block.width a.most room a
+
+-- The picture shows a line in the area: wrapped, or as much of it as one row has room for.
+abbrev pub IsLinePicture : Bool → ℕ → ℕ → ℕ → List ℕ → Split → List ℕ → Picture → ℕ → ℕ → Bool → ℕ → Type 0
+IsLinePicture true most before width prompt line hint p column row has_hint last = IsWrapped most before width prompt line hint p column row has_hint last
+IsLinePicture false most before width prompt line hint p column row has_hint last = IsPicture width prompt line hint p column has_hint × (p.height ≡ 1) × (row ≡ 0) × (last ≡ 0)
 
 -- One frame: the text of tokens that make the area show a picture of the prompt, the line and the hint, and change
 -- nothing else. It may rely on nothing but bells written since the last frame. In a window of one column it is empty.
 pub data IsLineFrame (prompt : List ℕ) (line : Split) (hint : List ℕ) (a b : Area) (bytes : List ℕ) : Type 0 where
-  drawn : (p : Picture) (column : ℕ) (ts : List Token) → 0 < a.strip.width → IsOneRow a.strip p → IsPicture a.strip.width prompt line hint p column b.has_hint
-      → b.strip ≡ with_row a.strip Enabled p.cells (Some column) → text_of ts ≡ bytes → IsNextFrame a.strip Enabled p (Some column) ts → IsLineFrame prompt line hint a b bytes
-  narrow : a.strip.width ≡ 0 → b ≡ a → bytes ≡ [] → IsLineFrame prompt line hint a b bytes
+  drawn : (p : Picture) (column row room : ℕ) (ts : List Token) → 0 < a.block.width → FitsBlock a.block p
+      → IsLinePicture a.wraps a.most (length a.block.rows) a.block.width prompt line hint p column row b.has_hint b.last
+      → b ≡ record a { block = record (with_rows a.block p column row) { room = room }; has_hint = b.has_hint; last = b.last }
+      → text_of ts ≡ bytes → IsBlockFrame a.block p column row ts → IsLineFrame prompt line hint a b bytes
+  narrow : a.block.width ≡ 0 → b ≡ a → bytes ≡ [] → IsLineFrame prompt line hint a b bytes
 
 -- A writer's bytes grew by one frame.
 abbrev pub Draws : List ℕ → Split → List ℕ → Area → Area → Option (List ℕ) → Option (List ℕ) → Type 0
@@ -52,3 +75,12 @@ bell = 0x07 ∷ []
 -- 8.3.22, 8.3.9, 8.3.39).
 abbrev pub erasure : ℕ → List ℕ
 erasure rows = (if rows == 0 then [] else text_of (by rows "A")) ++ (text_of (by 1 "G") ++ text_of (clear FromCursorDown))
+
+-- What erases a hint behind the line: EL (ECMA-48, 8.3.41).
+abbrev pub hint_erasure : Bool → List ℕ
+hint_erasure has_hint = if has_hint then text_of (clear UntilNewLine) else []
+
+-- The text that leaves an area. A hint is erased, and CUU or CUD goes to the line's last row. CR and LF go to the start
+-- of the row below.
+abbrev pub leaving_area : Area → List ℕ
+leaving_area a = hint_erasure a.has_hint ++ (text_of (to_row a.block.row a.last) ++ 0x0D ∷ 0x0A ∷ [])

@@ -5,6 +5,8 @@ pub mod Asking
 pub mod Lines
 pub mod Drawing
 pub mod Pictures
+pub mod RowFrames
+pub mod Wrapping
 pub mod Frames
 pub mod Written
 pub mod Histories

@@ -1,5 +1,5 @@
 -- The pieces that are written while a line is asked for.
-use Rattle.std.specs.Prelude.{◌≡◌, ℕ, Bool, true, false, List, [], ◌∷◌, ◌++◌, Option, Some, None, encode_utf8_all}
+use Rattle.std.specs.Prelude.{◌≡◌, ℕ, ◌≤◌, Bool, true, false, List, [], ◌∷◌, ◌++◌, Option, Some, None, encode_utf8_all}
 use Rattle.std.specs.Io.KnownBytes.{Appends}
 use Rattle.std.specs.declared.io.ErrorKind.{ErrorKind}
 use Rattle.std.specs.declared.time.Duration.{Duration}
@@ -14,21 +14,22 @@ use Rattle.line_editor.specs.Splits.{line_text}
 use Rattle.line_editor.specs.States.{EditorState}
 use Rattle.line_editor.specs.Turns.{Answer, Going, Clear, Ring, event_more}
 use Rattle.prompt.specs.Asking.{GoesOn, LineEnds, StopsAsking, stopped, broke, refused, answer_to, after_event}
-use Rattle.prompt.specs.Drawing.{clearing, leaving, search_text}
-use Rattle.prompt.specs.Frames.{Area, IsUnseen, IsLineFrame, bell, erasure, unseen}
+use Rattle.prompt.specs.Drawing.{clearing, search_text}
+use Rattle.prompt.specs.Frames.{Area, IsLineFrame, IsNewArea, bell, erasure, leaving_area, resized_area, unseen}
 use Rattle.prompt.specs.Lines.{going_on_events}
 
--- A prompt: what the editor is given for an event, the prompt's text, its hints for a line, and whether it asks the
--- terminal. Texts are in UTF-8.
+-- A prompt: what the editor is given for an event, the prompt's text, and its hints for a line. It asks the terminal or
+-- not, and wraps the line or not. Texts are in UTF-8.
 pub record PromptView : Type 0 where
   pub given : EditorState → Seen → Seen
   pub prompt : List ℕ
   pub hints : List ℕ → List ℕ
   pub asks : Bool
+  pub wraps : Bool
 
 -- A prompt of these.
-abbrev pub look_of : (EditorState → Seen → Seen) → (List ℕ → List ℕ) → List ℕ → Bool → PromptView
-look_of given hints prompt asks = record { given = given; prompt = prompt; hints = hints; asks = asks }
+abbrev pub look_of : (EditorState → Seen → Seen) → (List ℕ → List ℕ) → List ℕ → Bool → Bool → PromptView
+look_of given hints prompt asks wraps = record { given = given; prompt = prompt; hints = hints; asks = asks; wraps = wraps }
 
 -- The text before the line: the prompt's, or what an incremental search looks for, if one goes on.
 abbrev pub prompt_or : Option (List ℕ) → Bool → List ℕ → List ℕ
@@ -65,14 +66,14 @@ pub data Stage : Type 0 where
   Due : Area → Bool → Stage
   -- The window is to be cleared.
   Clears : Area → Stage
-  -- The window has another size, and the terminal was asked for the cursor's place, or not.
-  Resized : Bool → Stage
+  -- The window of the area has another size, and the terminal was asked for the cursor's place, or not.
+  Resized : Area → Bool → Stage
 
 -- From an editor on these events were taken while a line went on. They led to the second editor, and these bytes were
 -- written.
 pub data Pieces (look : PromptView) (w : EditorState) : List Seen → EditorState → Stage → List ℕ → Type 0 where
   -- Nothing was written yet, and nothing is known of the area.
-  nothing_yet : (a : Area) → IsUnseen a → Pieces look w [] w (Due a false) []
+  nothing_yet : (a : Area) → IsNewArea look.wraps a → Pieces look w [] w (Due a false) []
   -- One frame: the area shows the editor's line.
   shown : (es : List Seen) (k : EditorState) (a b : Area) (rings : Bool) (bytes frame : List ℕ) → Pieces look w es k (Due a rings) bytes
       → IsLineFrame (prompt_for look.prompt k) k.line (hint_for look.hints k) a b frame → Pieces look w es k (Shows b rings) (bytes ++ frame)
@@ -91,16 +92,16 @@ pub data Pieces (look : PromptView) (w : EditorState) : List Seen → EditorStat
   let_clear : (es : List Seen) (k : EditorState) (a : Area) (bytes : List ℕ) (e : Seen) → Pieces look w es k (Shows a false) bytes
       → answer_to (look.given k e) k ≡ Clear → Pieces look w (es ++ e ∷ []) (after_event (look.given k e) k) (Clears a) bytes
   -- The window is cleared, and the cursor is at its top: nothing is known of the area there.
-  cleared : (es : List Seen) (k : EditorState) (a : Area) (bytes : List ℕ) → Pieces look w es k (Clears a) bytes → Pieces look w es k (Due (unseen a) false) (bytes ++ clearing)
+  cleared : (es : List Seen) (k : EditorState) (a : Area) (room : ℕ) (bytes : List ℕ) → Pieces look w es k (Clears a) bytes → Pieces look w es k (Due (unseen room a) false) (bytes ++ clearing)
   -- The window got another size.
   resized : (es : List Seen) (k : EditorState) (a : Area) (bytes : List ℕ) (e : Seen) → Pieces look w es k (Shows a false) bytes
-      → overflows look k e ≡ false → answer_to (look.given k e) k ≡ Going → resizes e ≡ true → Pieces look w (es ++ e ∷ []) (after_event (look.given k e) k) (Resized false) bytes
+      → overflows look k e ≡ false → answer_to (look.given k e) k ≡ Going → resizes e ≡ true → Pieces look w (es ++ e ∷ []) (after_event (look.given k e) k) (Resized a false) bytes
   -- The query for the cursor's place, or a beginning of it if the writer failed.
-  asked : (es : List Seen) (k : EditorState) (bytes front rest : List ℕ) → Pieces look w es k (Resized false) bytes
-      → look.asks ≡ true → position_query ≡ front ++ rest → Pieces look w es k (Resized true) (bytes ++ front)
-  -- The line is erased, from some row above the cursor's on.
-  erased : (es : List Seen) (k : EditorState) (bytes : List ℕ) (was : Bool) (rows : ℕ) (a : Area) → Pieces look w es k (Resized was) bytes
-      → IsUnseen a → Pieces look w es k (Due a false) (bytes ++ erasure rows)
+  asked : (es : List Seen) (k : EditorState) (a : Area) (bytes front rest : List ℕ) → Pieces look w es k (Resized a false) bytes
+      → look.asks ≡ true → position_query ≡ front ++ rest → Pieces look w es k (Resized a true) (bytes ++ front)
+  -- The area is erased, from its first row on, or a row above that: the terminal may have wrapped its rows.
+  erased : (es : List Seen) (k : EditorState) (a : Area) (bytes : List ℕ) (was : Bool) (rows width most room : ℕ) → Pieces look w es k (Resized a was) bytes
+      → a.block.row ≤ rows → Pieces look w es k (Due (resized_area width most room a) false) (bytes ++ erasure rows)
 
 -- A writer's bytes grew by what was written while a line went on.
 pub record HasWritten (look : PromptView) (w : EditorState) (es : List Seen) (k : EditorState) (stage : Stage) (old new : Option (List ℕ)) : Type 0 where
@@ -129,7 +130,7 @@ pub record LineEndsShown {S : Type 0} (drawn : S → List SourceAnswer → S →
   pub front : List ℕ
   pub rest : List ℕ
   pub writes : Pieces look w (going_on_events ends.goes) ends.line (Shows area false) bytes
-  pub leaves : leaving area.has_hint ≡ front ++ rest
+  pub leaves : leaving_area area ≡ front ++ rest
   pub appended : Appends old new (bytes ++ front)
 
 -- The events that were taken before an error.

@@ -1,5 +1,5 @@
 //! Asks for a line, an event at a time.
-ghost use Rattle.std.specs.Prelude.{◌≡◌, ◌<◌, [], ℕ, chars, true, false, IfErr, IfOk, IsErrAnd, IsTrue, List, None, OnErr, OnOk, Option, Some, is_some};
+ghost use Rattle.std.specs.Prelude.{◌≡◌, ◌<◌, ◌≤◌, [], ℕ, chars, true, false, IfErr, IfOk, IsErrAnd, IsTrue, List, None, OnErr, OnOk, Option, Some, is_some};
 ghost use Rattle.std.specs.IoError.{error_kind};
 ghost use Rattle.std.specs.declared.io.ErrorKind.TheVariants.{InvalidInput};
 ghost use Rattle.crossterm_types.specs.Seen.{Paste, Seen, seen_event};
@@ -11,20 +11,20 @@ ghost use Rattle.prompt.specs.Asking.{LineEnds, StopsAsking, GoesOn, answer_seen
 ghost use Rattle.prompt.specs.Completing as completing;
 ghost use Rattle.prompt.specs.Completing.{as_read, given_by};
 ghost use Rattle.prompt.specs.Prompts as prompts;
-ghost use Rattle.prompt.specs.Frames.{Draws, DrawsFront, area};
+ghost use Rattle.prompt.specs.Frames.{Draws, DrawsFront, area_of};
 ghost use Rattle.prompt.specs.Written as written;
 ghost use Rattle.prompt.specs.Written.{Clears, Due, GoesOnShown, HasWritten, HasWrittenFront, LineEndsShown, Resized, Shows, StopsShown, hint_for, look_of, prompt_for, prompt_or};
 ghost use Rattle.prompt.specs.inside.Turning.{IsTaken, Leads, LeadsShown, MayAsk, MayQuery, stage_after};
 
-use crate::drawing::{Row, erase, ring};
+use crate::drawing::{erase, ring};
 use crate::helpers::Helper;
 use crate::prompts::{has_control, search_text};
 use crate::read::Read;
+use crate::rows::Rows;
 use crossterm::event::source::EventSource;
 use crossterm::event::timeout::Clock;
 use crossterm::event::{Event, KeyCode, KeyEventKind};
 use crossterm::terminal::ModeDevice;
-use crossterm_command::write_text;
 use line_editor::{EditFault, Editor, Outcome};
 use own_terminal::Session;
 use std::alloc::{Allocator, Global};
@@ -65,8 +65,12 @@ pub struct Prompt<'a, H = ()> {
     helper: &'a H,
     // Whether the terminal is asked for the cursor's place.
     asks: bool,
-    // The window's columns, or 0 if they aren't known.
-    columns: Cell<u16>,
+    // Whether the line is wrapped.
+    wraps: bool,
+    // The window's columns and rows, or none if they aren't known.
+    size: Cell<Option<(u16, u16)>>,
+    // Whether the terminal is known to wrap rows anew.
+    reflows: Cell<bool>,
 }
 
 impl<'a> Prompt<'a, ()> {
@@ -78,12 +82,15 @@ impl<'a> Prompt<'a, ()> {
     pub fn new(text: &'a str) -> Prompt<'a, ()>
         ensures text { result.text.now ≡ text.now }
         ensures asks { result.asks ≡ true }
+        ensures wraps { result.wraps ≡ true }
     {
         Prompt {
             text,
             helper: &(),
             asks: true,
-            columns: Cell::new(0),
+            wraps: true,
+            size: Cell::new(None),
+            reflows: Cell::new(false),
         }
     }
 }
@@ -99,12 +106,15 @@ impl<'a, H> Prompt<'a, H> {
         ensures text { result.text.now ≡ self.entry.text.now }
         ensures helper { result.helper.now ≡ helper.now }
         ensures asks { result.asks ≡ self.entry.asks }
+        ensures wraps { result.wraps ≡ self.entry.wraps }
     {
         Prompt {
             text: self.text,
             helper,
             asks: self.asks,
-            columns: Cell::new(0),
+            wraps: self.wraps,
+            size: Cell::new(None),
+            reflows: Cell::new(false),
         }
     }
 
@@ -117,12 +127,36 @@ impl<'a, H> Prompt<'a, H> {
         ensures text { result.text.now ≡ self.entry.text.now }
         ensures helper { result.helper.now ≡ self.entry.helper.now }
         ensures asks { result.asks ≡ false }
+        ensures wraps { result.wraps ≡ self.entry.wraps }
     {
         Prompt {
             text: self.text,
             helper: self.helper,
             asks: false,
-            columns: Cell::new(0),
+            wraps: self.wraps,
+            size: Cell::new(None),
+            reflows: Cell::new(false),
+        }
+    }
+
+    /// The same prompt, which shows as much of the line as one row has room for: a longer line scrolls in it.
+    ///
+    /// ```
+    /// let prompt = Prompt::new("Name: ").in_one_row();
+    /// ```
+    pub fn in_one_row(self) -> Prompt<'a, H>
+        ensures text { result.text.now ≡ self.entry.text.now }
+        ensures helper { result.helper.now ≡ self.entry.helper.now }
+        ensures asks { result.asks ≡ self.entry.asks }
+        ensures wraps { result.wraps ≡ false }
+    {
+        Prompt {
+            text: self.text,
+            helper: self.helper,
+            asks: self.asks,
+            wraps: false,
+            size: Cell::new(None),
+            reflows: Cell::new(false),
         }
     }
 }
@@ -212,35 +246,35 @@ fn show_search<W: Write, A: Allocator>(
     out: &mut W,
     editor: &Editor<A>,
     pattern: &str,
-    row: &mut Row,
+    rows: &mut Rows,
 ) -> io::Result<()>
     ensures shows { OnOk result (Draws (prompt_or (Some (chars pattern.now)) (is_ahead editor.now.last) []) editor.now.line []
-        (area row.old.strip row.old.has_hint) (area row.new.strip row.new.has_hint) (W.contents out.old) (W.contents out.new)) }
+        (area_of rows.old) (area_of rows.new) (W.contents out.old) (W.contents out.new)) }
     ensures stops { OnErr result (DrawsFront (prompt_or (Some (chars pattern.now)) (is_ahead editor.now.last) []) editor.now.line []
-        (area row.old.strip row.old.has_hint) (W.contents out.old) (W.contents out.new)) }
-    ensures asked { row.new.is_asked ≡ row.old.is_asked }
+        (area_of rows.old) (W.contents out.old) (W.contents out.new)) }
+    ensures asked { rows.new.is_asked ≡ rows.old.is_asked }
 {
-    let text = search_text(row.alloc, pattern, editor.is_ahead())?;
-    row.draw_next(out, text.as_str(), editor.line(), "")
+    let text = search_text(rows.alloc, pattern, editor.is_ahead())?;
+    rows.draw_next(out, text.as_str(), editor.line(), "")
 }
 
-/// Shows the line in the cursor's row.
+/// Shows the line.
 fn show<W: Write, A: Allocator, H: Helper>(
     out: &mut W,
     editor: &Editor<A>,
     prompt: &Prompt<'_, H>,
-    row: &mut Row,
+    rows: &mut Rows,
 ) -> io::Result<()>
     ensures shows { OnOk result (Draws (prompt_for prompt.now.text.now editor.now) editor.now.line (hint_for (H.hints prompt.now.helper.now) editor.now)
-        (area row.old.strip row.old.has_hint) (area row.new.strip row.new.has_hint) (W.contents out.old) (W.contents out.new)) }
+        (area_of rows.old) (area_of rows.new) (W.contents out.old) (W.contents out.new)) }
     ensures stops { OnErr result (DrawsFront (prompt_for prompt.now.text.now editor.now) editor.now.line (hint_for (H.hints prompt.now.helper.now) editor.now)
-        (area row.old.strip row.old.has_hint) (W.contents out.old) (W.contents out.new)) }
-    ensures asked { row.new.is_asked ≡ row.old.is_asked }
+        (area_of rows.old) (W.contents out.old) (W.contents out.new)) }
+    ensures asked { rows.new.is_asked ≡ rows.old.is_asked }
 {
     let line = editor.line();
     match editor.pattern() {
-        None => row.draw_next(out, prompt.text, line, prompt.helper.hint(line.text())),
-        Some(pattern) => show_search(out, editor, pattern, row),
+        None => rows.draw_next(out, prompt.text, line, prompt.helper.hint(line.text())),
+        Some(pattern) => show_search(out, editor, pattern, rows),
     }
 }
 
@@ -248,24 +282,24 @@ fn show<W: Write, A: Allocator, H: Helper>(
 fn ask<S: EventSource<Global>, D: ModeDevice, W: Write + Drop, C: Clock + Drop, R: Wait>(
     rt: &R,
     tty: &mut Session<S, D, W, C>,
-    row: &mut Row,
+    rows: &mut Rows,
 ) -> io::Result<Option<u16>>
     ensures asked { MayAsk S.drawn S.asked (knows tty.old.pass) (knows tty.new.pass) }
-    ensures query { MayQuery row.old.is_asked (W.contents tty.old.out) (W.contents tty.new.out) }
-    ensures silent { IfOk result (λ place. row.new.is_asked ≡ is_some place) }
-    ensures fewer { row.new.is_asked ≡ true → row.old.is_asked ≡ true }
-    ensures area { (area row.new.strip row.new.has_hint) ≡ (area row.old.strip row.old.has_hint) }
+    ensures query { MayQuery rows.old.is_asked (W.contents tty.old.out) (W.contents tty.new.out) }
+    ensures silent { IfOk result (λ place. rows.new.is_asked ≡ is_some place) }
+    ensures fewer { rows.new.is_asked ≡ true → rows.old.is_asked ≡ true }
+    ensures area { (area_of rows.new) ≡ (area_of rows.old) }
     ensures features { tty.new.features ≡ tty.old.features }
     ensures mode { IsTrue (is_some tty.old.term.prior) → tty.new.term.prior ≡ tty.old.term.prior }
 {
-    if !row.is_asked {
+    if !rows.is_asked {
         return Ok(None);
     }
     match tty.position(rt) {
         Ok((column, _)) => Ok(Some(column)),
         Err(error) => {
             if error.kind() == ErrorKind::Other {
-                row.is_asked = false;
+                rows.is_asked = false;
                 Ok(None)
             } else {
                 Err(error)
@@ -274,17 +308,42 @@ fn ask<S: EventSource<Global>, D: ModeDevice, W: Write + Drop, C: Clock + Drop, 
     }
 }
 
-/// The columns of a window. One that says 0, as a serial line does, counts as 80, as in readline.
-fn columns_of<S: EventSource<Global>, D: ModeDevice, W: Write + Drop, C: Clock + Drop>(
+/// How many rows above the cursor the first row is in a window of so many columns, as far as the terminal reports the cursor's place.
+fn find_start<S: EventSource<Global>, D: ModeDevice, W: Write + Drop, C: Clock + Drop, R: Wait>(
+    rt: &R,
     tty: &mut Session<S, D, W, C>,
+    rows: &mut Rows,
+    columns: u16,
 ) -> io::Result<u16>
+    ensures asked { MayAsk S.drawn S.asked (knows tty.old.pass) (knows tty.new.pass) }
+    ensures query { MayQuery rows.old.is_asked (W.contents tty.old.out) (W.contents tty.new.out) }
+    ensures above { IfOk result (λ above. rows.old.block.row ≤ above) }
+    ensures fewer { rows.new.is_asked ≡ true → rows.old.is_asked ≡ true }
+    ensures area { (area_of rows.new) ≡ (area_of rows.old) }
+    ensures features { tty.new.features ≡ tty.old.features }
+    ensures mode { IsTrue (is_some tty.old.term.prior) → tty.new.term.prior ≡ tty.old.term.prior }
+{
+    match ask(rt, tty, rows) {
+        Ok(Some(column)) => Ok(rows.rows_above(columns, column)),
+        Ok(None) => Ok(rows.row()),
+        Err(error) => Err(error),
+    }
+}
+
+/// The columns and rows of a window. 0 of them, as a serial line says, count as 80 and 24, as in readline.
+fn size_of<S: EventSource<Global>, D: ModeDevice, W: Write + Drop, C: Clock + Drop>(
+    tty: &mut Session<S, D, W, C>,
+) -> io::Result<(u16, u16)>
     ensures others { (tty.new.out ≡ tty.old.out) × (tty.new.pass ≡ tty.old.pass) × (tty.new.features ≡ tty.old.features) }
     ensures mode { tty.new.term.prior ≡ tty.old.term.prior }
-    ensures some { IfOk result (λ columns. 0 < columns) }
+    ensures some { IfOk result (λ size. (0 < size.0) × (0 < size.1)) }
 {
     match tty.size() {
-        Ok((0, _)) => Ok(80),
-        Ok((columns, _)) => Ok(columns),
+        Ok((columns, rows)) => {
+            let columns = if columns == 0 { 80 } else { columns };
+            let rows = if rows == 0 { 24 } else { rows };
+            Ok((columns, rows))
+        }
         Err(error) => Err(error),
     }
 }
@@ -303,30 +362,30 @@ fn show_anew<
     tty: &mut Session<S, D, W, C>,
     editor: &Editor<A>,
     prompt: &Prompt<'_, H>,
-    row: &mut Row,
+    rows: &mut Rows,
 ) -> io::Result<()>
     ensures asked { MayAsk S.drawn S.asked (knows tty.old.pass) (knows tty.new.pass) }
-    ensures shows { (given : EditorState → Seen → Seen) (w : EditorState) (es : List Seen) (out : Option (List ℕ)) → (row.old.is_asked ≡ true → prompt.now.asks ≡ true)
-        → HasWritten (look_of given (H.hints prompt.now.helper.now) prompt.now.text.now prompt.now.asks) w es editor.now (Resized false) out (W.contents tty.old.out) → OnOk result (HasWritten (look_of given (H.hints prompt.now.helper.now) prompt.now.text.now prompt.now.asks) w es editor.now (Shows (area row.new.strip row.new.has_hint) false) out (W.contents tty.new.out)) }
-    ensures stops { (given : EditorState → Seen → Seen) (w : EditorState) (es : List Seen) (out : Option (List ℕ)) → (row.old.is_asked ≡ true → prompt.now.asks ≡ true)
-        → HasWritten (look_of given (H.hints prompt.now.helper.now) prompt.now.text.now prompt.now.asks) w es editor.now (Resized false) out (W.contents tty.old.out) → OnErr result (HasWrittenFront (look_of given (H.hints prompt.now.helper.now) prompt.now.text.now prompt.now.asks) w es editor.now out (W.contents tty.new.out)) }
-    ensures fewer { row.new.is_asked ≡ true → row.old.is_asked ≡ true }
+    ensures shows { (given : EditorState → Seen → Seen) (w : EditorState) (es : List Seen) (out : Option (List ℕ)) → (rows.old.is_asked ≡ true → prompt.now.asks ≡ true)
+        → HasWritten (look_of given (H.hints prompt.now.helper.now) prompt.now.text.now prompt.now.asks prompt.now.wraps) w es editor.now (Resized (area_of rows.old) false) out (W.contents tty.old.out) → OnOk result (HasWritten (look_of given (H.hints prompt.now.helper.now) prompt.now.text.now prompt.now.asks prompt.now.wraps) w es editor.now (Shows (area_of rows.new) false) out (W.contents tty.new.out)) }
+    ensures stops { (given : EditorState → Seen → Seen) (w : EditorState) (es : List Seen) (out : Option (List ℕ)) → (rows.old.is_asked ≡ true → prompt.now.asks ≡ true)
+        → HasWritten (look_of given (H.hints prompt.now.helper.now) prompt.now.text.now prompt.now.asks prompt.now.wraps) w es editor.now (Resized (area_of rows.old) false) out (W.contents tty.old.out) → OnErr result (HasWrittenFront (look_of given (H.hints prompt.now.helper.now) prompt.now.text.now prompt.now.asks prompt.now.wraps) w es editor.now out (W.contents tty.new.out)) }
+    ensures fewer { rows.new.is_asked ≡ true → rows.old.is_asked ≡ true }
     ensures features { tty.new.features ≡ tty.old.features }
     ensures mode { IsTrue (is_some tty.old.term.prior) → tty.new.term.prior ≡ tty.old.term.prior }
 {
-    let columns = match columns_of(tty) {
-        Ok(columns) => columns,
+    let size = match size_of(tty) {
+        Ok(size) => size,
         Err(error) => return Err(error),
     };
-    prompt.columns.set(columns);
-    let rows = match ask(rt, tty, row) {
-        Ok(Some(column)) => row.rows_above(columns, column),
-        Ok(None) => 0,
+    prompt.size.set(Some(size));
+    let above = match find_start(rt, tty, rows, size.0) {
+        Ok(above) => above,
         Err(error) => return Err(error),
     };
-    row.resize(columns)?;
-    match erase(&mut tty.out, rows) {
-        Ok(()) => show(&mut tty.out, editor, prompt, row),
+    prompt.reflows.set(rows.reflows);
+    rows.resize(size);
+    match erase(&mut tty.out, above) {
+        Ok(()) => show(&mut tty.out, editor, prompt, rows),
         Err(error) => Err(error),
     }
 }
@@ -336,20 +395,18 @@ fn show_at_top<W: Write, A: Allocator, H: Helper>(
     out: &mut W,
     editor: &Editor<A>,
     prompt: &Prompt<'_, H>,
-    row: &mut Row,
+    rows: &mut Rows,
 ) -> io::Result<()>
     ensures shows { (given : EditorState → Seen → Seen) (w : EditorState) (es : List Seen) (from : Option (List ℕ))
-        → HasWritten (look_of given (H.hints prompt.now.helper.now) prompt.now.text.now prompt.now.asks) w es editor.now (Clears (area row.old.strip row.old.has_hint)) from (W.contents out.old) → OnOk result (HasWritten (look_of given (H.hints prompt.now.helper.now) prompt.now.text.now prompt.now.asks) w es editor.now (Shows (area row.new.strip row.new.has_hint) false) from (W.contents out.new)) }
+        → HasWritten (look_of given (H.hints prompt.now.helper.now) prompt.now.text.now prompt.now.asks prompt.now.wraps) w es editor.now (Clears (area_of rows.old)) from (W.contents out.old) → OnOk result (HasWritten (look_of given (H.hints prompt.now.helper.now) prompt.now.text.now prompt.now.asks prompt.now.wraps) w es editor.now (Shows (area_of rows.new) false) from (W.contents out.new)) }
     ensures stops { (given : EditorState → Seen → Seen) (w : EditorState) (es : List Seen) (from : Option (List ℕ))
-        → HasWritten (look_of given (H.hints prompt.now.helper.now) prompt.now.text.now prompt.now.asks) w es editor.now (Clears (area row.old.strip row.old.has_hint)) from (W.contents out.old) → OnErr result (HasWrittenFront (look_of given (H.hints prompt.now.helper.now) prompt.now.text.now prompt.now.asks) w es editor.now from (W.contents out.new)) }
-    ensures asked { row.new.is_asked ≡ row.old.is_asked }
+        → HasWritten (look_of given (H.hints prompt.now.helper.now) prompt.now.text.now prompt.now.asks prompt.now.wraps) w es editor.now (Clears (area_of rows.old)) from (W.contents out.old) → OnErr result (HasWrittenFront (look_of given (H.hints prompt.now.helper.now) prompt.now.text.now prompt.now.asks prompt.now.wraps) w es editor.now from (W.contents out.new)) }
+    ensures asked { rows.new.is_asked ≡ rows.old.is_asked }
 {
-    match write_text(out, Row::clearing()) {
-        Ok(()) => {}
-        Err(error) => return Err(error),
+    match rows.clear(out) {
+        Ok(()) => show(out, editor, prompt, rows),
+        Err(error) => Err(error),
     }
-    row.forget();
-    show(out, editor, prompt, row)
 }
 
 /// Shows the line once more, and rings the bell.
@@ -357,15 +414,15 @@ fn show_and_ring<W: Write, A: Allocator, H: Helper>(
     out: &mut W,
     editor: &Editor<A>,
     prompt: &Prompt<'_, H>,
-    row: &mut Row,
+    rows: &mut Rows,
 ) -> io::Result<()>
     ensures shows { (given : EditorState → Seen → Seen) (w : EditorState) (es : List Seen) (from : Option (List ℕ))
-        → HasWritten (look_of given (H.hints prompt.now.helper.now) prompt.now.text.now prompt.now.asks) w es editor.now (Due (area row.old.strip row.old.has_hint) true) from (W.contents out.old) → OnOk result (HasWritten (look_of given (H.hints prompt.now.helper.now) prompt.now.text.now prompt.now.asks) w es editor.now (Shows (area row.new.strip row.new.has_hint) false) from (W.contents out.new)) }
+        → HasWritten (look_of given (H.hints prompt.now.helper.now) prompt.now.text.now prompt.now.asks prompt.now.wraps) w es editor.now (Due (area_of rows.old) true) from (W.contents out.old) → OnOk result (HasWritten (look_of given (H.hints prompt.now.helper.now) prompt.now.text.now prompt.now.asks prompt.now.wraps) w es editor.now (Shows (area_of rows.new) false) from (W.contents out.new)) }
     ensures stops { (given : EditorState → Seen → Seen) (w : EditorState) (es : List Seen) (from : Option (List ℕ))
-        → HasWritten (look_of given (H.hints prompt.now.helper.now) prompt.now.text.now prompt.now.asks) w es editor.now (Due (area row.old.strip row.old.has_hint) true) from (W.contents out.old) → OnErr result (HasWrittenFront (look_of given (H.hints prompt.now.helper.now) prompt.now.text.now prompt.now.asks) w es editor.now from (W.contents out.new)) }
-    ensures asked { row.new.is_asked ≡ row.old.is_asked }
+        → HasWritten (look_of given (H.hints prompt.now.helper.now) prompt.now.text.now prompt.now.asks prompt.now.wraps) w es editor.now (Due (area_of rows.old) true) from (W.contents out.old) → OnErr result (HasWrittenFront (look_of given (H.hints prompt.now.helper.now) prompt.now.text.now prompt.now.asks prompt.now.wraps) w es editor.now from (W.contents out.new)) }
+    ensures asked { rows.new.is_asked ≡ rows.old.is_asked }
 {
-    match show(out, editor, prompt, row) {
+    match show(out, editor, prompt, rows) {
         Ok(()) => ring(out),
         Err(error) => Err(error),
     }
@@ -386,21 +443,21 @@ fn show_after<
     editor: &Editor<A>,
     prompt: &Prompt<'_, H>,
     event: &Event,
-    row: &mut Row,
+    rows: &mut Rows,
 ) -> io::Result<()>
     ensures asked { MayAsk S.drawn S.asked (knows tty.old.pass) (knows tty.new.pass) }
-    ensures shows { (given : EditorState → Seen → Seen) (w : EditorState) (es : List Seen) (out : Option (List ℕ)) → (row.old.is_asked ≡ true → prompt.now.asks ≡ true)
-        → HasWritten (look_of given (H.hints prompt.now.helper.now) prompt.now.text.now prompt.now.asks) w es editor.now (stage_after (seen_event event.now) (area row.old.strip row.old.has_hint)) out (W.contents tty.old.out) → OnOk result (HasWritten (look_of given (H.hints prompt.now.helper.now) prompt.now.text.now prompt.now.asks) w es editor.now (Shows (area row.new.strip row.new.has_hint) false) out (W.contents tty.new.out)) }
-    ensures stops { (given : EditorState → Seen → Seen) (w : EditorState) (es : List Seen) (out : Option (List ℕ)) → (row.old.is_asked ≡ true → prompt.now.asks ≡ true)
-        → HasWritten (look_of given (H.hints prompt.now.helper.now) prompt.now.text.now prompt.now.asks) w es editor.now (stage_after (seen_event event.now) (area row.old.strip row.old.has_hint)) out (W.contents tty.old.out) → OnErr result (HasWrittenFront (look_of given (H.hints prompt.now.helper.now) prompt.now.text.now prompt.now.asks) w es editor.now out (W.contents tty.new.out)) }
-    ensures fewer { row.new.is_asked ≡ true → row.old.is_asked ≡ true }
+    ensures shows { (given : EditorState → Seen → Seen) (w : EditorState) (es : List Seen) (out : Option (List ℕ)) → (rows.old.is_asked ≡ true → prompt.now.asks ≡ true)
+        → HasWritten (look_of given (H.hints prompt.now.helper.now) prompt.now.text.now prompt.now.asks prompt.now.wraps) w es editor.now (stage_after (seen_event event.now) (area_of rows.old)) out (W.contents tty.old.out) → OnOk result (HasWritten (look_of given (H.hints prompt.now.helper.now) prompt.now.text.now prompt.now.asks prompt.now.wraps) w es editor.now (Shows (area_of rows.new) false) out (W.contents tty.new.out)) }
+    ensures stops { (given : EditorState → Seen → Seen) (w : EditorState) (es : List Seen) (out : Option (List ℕ)) → (rows.old.is_asked ≡ true → prompt.now.asks ≡ true)
+        → HasWritten (look_of given (H.hints prompt.now.helper.now) prompt.now.text.now prompt.now.asks prompt.now.wraps) w es editor.now (stage_after (seen_event event.now) (area_of rows.old)) out (W.contents tty.old.out) → OnErr result (HasWrittenFront (look_of given (H.hints prompt.now.helper.now) prompt.now.text.now prompt.now.asks prompt.now.wraps) w es editor.now out (W.contents tty.new.out)) }
+    ensures fewer { rows.new.is_asked ≡ true → rows.old.is_asked ≡ true }
     ensures features { tty.new.features ≡ tty.old.features }
     ensures mode { IsTrue (is_some tty.old.term.prior) → tty.new.term.prior ≡ tty.old.term.prior }
 {
     if is_resize(event) {
-        show_anew(rt, tty, editor, prompt, row)
+        show_anew(rt, tty, editor, prompt, rows)
     } else {
-        show(&mut tty.out, editor, prompt, row)
+        show(&mut tty.out, editor, prompt, rows)
     }
 }
 
@@ -418,14 +475,14 @@ fn take_turn<
     tty: &mut Session<S, D, W, C>,
     editor: &mut Editor<A>,
     prompt: &Prompt<'_, H>,
-    row: &mut Row,
+    rows: &mut Rows,
 ) -> Turn<A>
     ensures leads { (v : Known S) (w : EditorState) → GoesOn S.drawn S.asked (given_by (H.completes prompt.now.helper.now)) v w (knows tty.old.pass) editor.old
         → Leads S.drawn S.asked (given_by (H.completes prompt.now.helper.now)) v w result (knows tty.new.pass) editor.new }
-    ensures written { (v : Known S) (w : EditorState) (out : Option (List ℕ)) → (row.old.is_asked ≡ true → prompt.now.asks ≡ true)
-        → GoesOnShown S.drawn S.asked (look_of (given_by (H.completes prompt.now.helper.now)) (H.hints prompt.now.helper.now) prompt.now.text.now prompt.now.asks) v w (knows tty.old.pass) editor.old (area row.old.strip row.old.has_hint) out (W.contents tty.old.out)
-        → LeadsShown S.drawn S.asked (look_of (given_by (H.completes prompt.now.helper.now)) (H.hints prompt.now.helper.now) prompt.now.text.now prompt.now.asks) v w result (knows tty.new.pass) editor.new (area row.new.strip row.new.has_hint) out (W.contents tty.new.out) }
-    ensures fewer { row.new.is_asked ≡ true → row.old.is_asked ≡ true }
+    ensures written { (v : Known S) (w : EditorState) (out : Option (List ℕ)) → (rows.old.is_asked ≡ true → prompt.now.asks ≡ true)
+        → GoesOnShown S.drawn S.asked (look_of (given_by (H.completes prompt.now.helper.now)) (H.hints prompt.now.helper.now) prompt.now.text.now prompt.now.asks prompt.now.wraps) v w (knows tty.old.pass) editor.old (area_of rows.old) out (W.contents tty.old.out)
+        → LeadsShown S.drawn S.asked (look_of (given_by (H.completes prompt.now.helper.now)) (H.hints prompt.now.helper.now) prompt.now.text.now prompt.now.asks prompt.now.wraps) v w result (knows tty.new.pass) editor.new (area_of rows.new) out (W.contents tty.new.out) }
+    ensures fewer { rows.new.is_asked ≡ true → rows.old.is_asked ≡ true }
     ensures features { tty.new.features ≡ tty.old.features }
     ensures mode { IsTrue (is_some tty.old.term.prior) → tty.new.term.prior ≡ tty.old.term.prior }
 {
@@ -434,15 +491,15 @@ fn take_turn<
         Err(error) => return Turn::Failed(error),
     };
     match take(editor, prompt.helper, &event) {
-        Taken::Going => match show_after(rt, tty, editor, prompt, &event, row) {
+        Taken::Going => match show_after(rt, tty, editor, prompt, &event, rows) {
             Ok(()) => Turn::Going,
             Err(error) => Turn::Failed(error),
         },
-        Taken::Clear => match show_at_top(&mut tty.out, editor, prompt, row) {
+        Taken::Clear => match show_at_top(&mut tty.out, editor, prompt, rows) {
             Ok(()) => Turn::Going,
             Err(error) => Turn::Failed(error),
         },
-        Taken::Ring => match show_and_ring(&mut tty.out, editor, prompt, row) {
+        Taken::Ring => match show_and_ring(&mut tty.out, editor, prompt, rows) {
             Ok(()) => Turn::Going,
             Err(error) => Turn::Failed(error),
         },
@@ -452,29 +509,28 @@ fn take_turn<
         },
         Taken::Ended(read) => {
             // An accepted line is returned all the same: the next write shows the fault.
-            let _ = row.leave(&mut tty.out);
+            let _ = rows.leave(&mut tty.out);
             Turn::Ended(read)
         }
         Taken::Refused => Turn::Failed(io::Error::from(ErrorKind::OutOfMemory)),
     }
 }
 
-/// The window's columns, for which the window is asked if the prompt doesn't know them.
-fn columns_for<S: EventSource<Global>, D: ModeDevice, W: Write + Drop, C: Clock + Drop, H>(
+/// The window's columns and rows, for which the window is asked if the prompt doesn't know them.
+fn size_for<S: EventSource<Global>, D: ModeDevice, W: Write + Drop, C: Clock + Drop, H>(
     tty: &mut Session<S, D, W, C>,
     prompt: &Prompt<'_, H>,
-) -> io::Result<u16>
+) -> io::Result<(u16, u16)>
     ensures others { (tty.new.out ≡ tty.old.out) × (tty.new.pass ≡ tty.old.pass) × (tty.new.features ≡ tty.old.features) }
     ensures mode { tty.new.term.prior ≡ tty.old.term.prior }
 {
-    let known = prompt.columns.get();
-    if known > 0 {
+    if let Some(known) = prompt.size.get() {
         return Ok(known);
     }
-    match columns_of(tty) {
-        Ok(columns) => {
-            prompt.columns.set(columns);
-            Ok(columns)
+    match size_of(tty) {
+        Ok(size) => {
+            prompt.size.set(Some(size));
+            Ok(size)
         }
         Err(error) => Err(error),
     }
@@ -488,11 +544,11 @@ fn begin<
     C: Clock + Drop,
     A: Allocator,
     H: Helper,
->(tty: &mut Session<S, D, W, C>, editor: &Editor<A>, prompt: &Prompt<'_, H>) -> io::Result<Row>
+>(tty: &mut Session<S, D, W, C>, editor: &Editor<A>, prompt: &Prompt<'_, H>) -> io::Result<Rows>
     ensures pass { tty.new.pass ≡ tty.old.pass }
-    ensures shows { IfOk result (λ row. (given : EditorState → Seen → Seen) → HasWritten (look_of given (H.hints prompt.now.helper.now) prompt.now.text.now prompt.now.asks) editor.now [] editor.now (Shows (area row.strip row.has_hint) false) (W.contents tty.old.out) (W.contents tty.new.out)) }
-    ensures stops { OnErr result ((given : EditorState → Seen → Seen) → HasWrittenFront (look_of given (H.hints prompt.now.helper.now) prompt.now.text.now prompt.now.asks) editor.now [] editor.now (W.contents tty.old.out) (W.contents tty.new.out)) }
-    ensures asks { IfOk result (λ row. row.is_asked ≡ prompt.now.asks) }
+    ensures shows { IfOk result (λ rows. (given : EditorState → Seen → Seen) → HasWritten (look_of given (H.hints prompt.now.helper.now) prompt.now.text.now prompt.now.asks prompt.now.wraps) editor.now [] editor.now (Shows (area_of rows) false) (W.contents tty.old.out) (W.contents tty.new.out)) }
+    ensures stops { OnErr result ((given : EditorState → Seen → Seen) → HasWrittenFront (look_of given (H.hints prompt.now.helper.now) prompt.now.text.now prompt.now.asks prompt.now.wraps) editor.now [] editor.now (W.contents tty.old.out) (W.contents tty.new.out)) }
+    ensures asks { IfOk result (λ rows. rows.is_asked ≡ prompt.now.asks) }
     ensures features { tty.new.features ≡ tty.old.features }
     ensures already { IsTrue (is_some tty.old.term.prior) → tty.new.term.prior ≡ tty.old.term.prior }
     ensures raw { OnOk result (tty.old.term.prior ≡ None → tty.new.term.prior ≡ Some (D.current tty.old.term.device)) }
@@ -501,14 +557,15 @@ fn begin<
         Ok(()) => {}
         Err(error) => return Err(error),
     }
-    let columns = match columns_for(tty, prompt) {
-        Ok(columns) => columns,
+    let size = match size_for(tty, prompt) {
+        Ok(size) => size,
         Err(error) => return Err(error),
     };
-    let mut row = Row::new(tty.alloc, columns)?;
-    row.is_asked = prompt.asks;
-    match show(&mut tty.out, editor, prompt, &mut row) {
-        Ok(()) => Ok(row),
+    let mut rows = Rows::of(tty.alloc, size, prompt.wraps)?;
+    rows.is_asked = prompt.asks;
+    rows.reflows = prompt.reflows.get();
+    match show(&mut tty.out, editor, prompt, &mut rows) {
+        Ok(()) => Ok(rows),
         Err(error) => Err(error),
     }
 }
@@ -527,19 +584,19 @@ fn go_on<
     tty: &mut Session<S, D, W, C>,
     editor: &mut Editor<A>,
     prompt: &Prompt<'_, H>,
-    mut row: Row,
+    mut rows: Rows,
 ) -> io::Result<Read<A>>
     ensures line { IfOk result (λ read. LineEnds S.drawn S.asked (given_by (H.completes prompt.now.helper.now)) (knows tty.old.pass) editor.old (answer_seen read) (knows tty.new.pass) editor.new) }
     ensures err { IfErr result (λ error. StopsAsking S.drawn S.asked (given_by (H.completes prompt.now.helper.now)) (knows tty.old.pass) editor.old (error_kind error) (knows tty.new.pass) editor.new) }
-    ensures written { IfOk result (λ read. (out : Option (List ℕ)) → (row.is_asked ≡ true → prompt.now.asks ≡ true) → HasWritten (look_of (given_by (H.completes prompt.now.helper.now)) (H.hints prompt.now.helper.now) prompt.now.text.now prompt.now.asks) editor.old [] editor.old (Shows (area row.strip row.has_hint) false) out (W.contents tty.old.out)
-        → LineEndsShown S.drawn S.asked (look_of (given_by (H.completes prompt.now.helper.now)) (H.hints prompt.now.helper.now) prompt.now.text.now prompt.now.asks) (knows tty.old.pass) editor.old (answer_seen read) (knows tty.new.pass) editor.new out (W.contents tty.new.out)) }
-    ensures cut { IfErr result (λ error. (out : Option (List ℕ)) → (row.is_asked ≡ true → prompt.now.asks ≡ true) → HasWritten (look_of (given_by (H.completes prompt.now.helper.now)) (H.hints prompt.now.helper.now) prompt.now.text.now prompt.now.asks) editor.old [] editor.old (Shows (area row.strip row.has_hint) false) out (W.contents tty.old.out)
-        → StopsShown S.drawn S.asked (look_of (given_by (H.completes prompt.now.helper.now)) (H.hints prompt.now.helper.now) prompt.now.text.now prompt.now.asks) (knows tty.old.pass) editor.old (error_kind error) (knows tty.new.pass) editor.new out (W.contents tty.new.out)) }
+    ensures written { IfOk result (λ read. (out : Option (List ℕ)) → (rows.is_asked ≡ true → prompt.now.asks ≡ true) → HasWritten (look_of (given_by (H.completes prompt.now.helper.now)) (H.hints prompt.now.helper.now) prompt.now.text.now prompt.now.asks prompt.now.wraps) editor.old [] editor.old (Shows (area_of rows) false) out (W.contents tty.old.out)
+        → LineEndsShown S.drawn S.asked (look_of (given_by (H.completes prompt.now.helper.now)) (H.hints prompt.now.helper.now) prompt.now.text.now prompt.now.asks prompt.now.wraps) (knows tty.old.pass) editor.old (answer_seen read) (knows tty.new.pass) editor.new out (W.contents tty.new.out)) }
+    ensures cut { IfErr result (λ error. (out : Option (List ℕ)) → (rows.is_asked ≡ true → prompt.now.asks ≡ true) → HasWritten (look_of (given_by (H.completes prompt.now.helper.now)) (H.hints prompt.now.helper.now) prompt.now.text.now prompt.now.asks prompt.now.wraps) editor.old [] editor.old (Shows (area_of rows) false) out (W.contents tty.old.out)
+        → StopsShown S.drawn S.asked (look_of (given_by (H.completes prompt.now.helper.now)) (H.hints prompt.now.helper.now) prompt.now.text.now prompt.now.asks prompt.now.wraps) (knows tty.old.pass) editor.old (error_kind error) (knows tty.new.pass) editor.new out (W.contents tty.new.out)) }
     ensures features { tty.new.features ≡ tty.old.features }
     ensures mode { IsTrue (is_some tty.old.term.prior) → tty.new.term.prior ≡ tty.old.term.prior }
 {
     for _ in rt.forever() {
-        match take_turn(rt, tty, editor, prompt, &mut row) {
+        match take_turn(rt, tty, editor, prompt, &mut rows) {
             Turn::Going => {}
             Turn::Ended(read) => return Ok(read),
             Turn::Failed(error) => return Err(error),
@@ -549,11 +606,11 @@ fn go_on<
 }
 
 impl<H: Helper> Prompt<'_, H> {
-    /// Asks for a line in the cursor's row, after the prompt, until Enter, Ctrl-C, or Ctrl-D in an empty line.
+    /// Asks for a line from the cursor's row on, after the prompt, until Enter, Ctrl-C, or Ctrl-D in an empty line.
     ///
-    /// Raw mode is switched on if it isn't, and stays on, so that no key between two lines is lost. Each event is given to the editor, and what
-    /// is seen of its line is shown anew. A text that is too long for the line rings the bell, and the line goes on. Then the cursor goes to
-    /// the start of the next row.
+    /// Raw mode is switched on if it isn't, and stays on, so that no key between two lines is lost. Each event is given to the editor, and its
+    /// line is shown anew, in as many rows as it takes. A text that is too long for the line rings the bell, and the line goes on. Then the cursor
+    /// goes to the start of the row below the line.
     ///
     /// At Tab without a modifier the helper's text is pasted, if it has one for the line. Its hint is shown behind the line. Ctrl-L clears the
     /// window, and the line goes on at its top (`clear-screen`): so a row that another program wrote over is whole again. While an incremental
@@ -562,20 +619,20 @@ impl<H: Helper> Prompt<'_, H> {
     /// So a frame of the line is written first, and one after each event. Nothing else is but the bell, a clearing, what a resize needs, and at
     /// last what leaves the row.
     ///
-    /// The editor may hold an unfinished line, and then that line goes on. In a window that is too narrow for both, the prompt is left out. If
+    /// The editor may hold an unfinished line, and then that line goes on. In one row that is too narrow for both, the prompt is left out. If
     /// `Feature::BracketedPaste` is on, a paste is one event; else an Enter in a paste accepts the line.
     ///
-    /// The window's size is asked for in the prompt's first call and after a resize, and 0 columns count as 80. So a program that reads events by itself takes a new
-    /// prompt after an `Event::Resize`. After one the terminal is also asked for the cursor's place, since it may have wrapped the row. If it
-    /// doesn't answer within two seconds, it isn't asked again in this call.
+    /// The window's size is asked for in the prompt's first call and after a resize. 0 columns or rows count as 80 and 24. So a program that reads events by itself
+    /// takes a new prompt after an `Event::Resize`. After one the terminal is also asked for the cursor's place, since it may have wrapped the
+    /// rows. If it doesn't answer within two seconds, it isn't asked again in this call.
     ///
     /// # Errors
     ///
     /// `InvalidInput` if the prompt has a control character: then nothing was done. Else those of `Session::{enable_raw_mode, size, read,
     /// position}` and of the writer, and `OutOfMemory` if memory was refused. The editor has taken all events that were read, but
-    /// one for which memory was refused. So the next call goes on with its line. The cursor stays in the row.
+    /// one for which memory was refused. So the next call goes on with its line. The cursor stays in its row.
     ///
-    /// An accepted line is returned also if the writer then fails to leave the row. The next write shows that error.
+    /// An accepted line is returned also if the writer then fails to leave the rows. The next write shows that error.
     ///
     /// ```
     /// let prompt = Prompt::new("Name: ");
@@ -593,8 +650,8 @@ impl<H: Helper> Prompt<'_, H> {
     >(&self, rt: &R, tty: &mut Session<S, D, W, C>, editor: &mut Editor<A>) -> io::Result<Read<A>>
         ensures line { IfOk result (λ read. LineEnds S.drawn S.asked (given_by (H.completes self.now.helper.now)) (knows tty.old.pass) editor.old (answer_seen read) (knows tty.new.pass) editor.new) }
         ensures err { IfErr result (λ error. StopsAsking S.drawn S.asked (given_by (H.completes self.now.helper.now)) (knows tty.old.pass) editor.old (error_kind error) (knows tty.new.pass) editor.new) }
-        ensures written { IfOk result (λ read. LineEndsShown S.drawn S.asked (look_of (given_by (H.completes self.now.helper.now)) (H.hints self.now.helper.now) self.now.text.now self.now.asks) (knows tty.old.pass) editor.old (answer_seen read) (knows tty.new.pass) editor.new (W.contents tty.old.out) (W.contents tty.new.out)) }
-        ensures cut { IfErr result (λ error. StopsShown S.drawn S.asked (look_of (given_by (H.completes self.now.helper.now)) (H.hints self.now.helper.now) self.now.text.now self.now.asks) (knows tty.old.pass) editor.old (error_kind error) (knows tty.new.pass) editor.new (W.contents tty.old.out) (W.contents tty.new.out)) }
+        ensures written { IfOk result (λ read. LineEndsShown S.drawn S.asked (look_of (given_by (H.completes self.now.helper.now)) (H.hints self.now.helper.now) self.now.text.now self.now.asks self.now.wraps) (knows tty.old.pass) editor.old (answer_seen read) (knows tty.new.pass) editor.new (W.contents tty.old.out) (W.contents tty.new.out)) }
+        ensures cut { IfErr result (λ error. StopsShown S.drawn S.asked (look_of (given_by (H.completes self.now.helper.now)) (H.hints self.now.helper.now) self.now.text.now self.now.asks self.now.wraps) (knows tty.old.pass) editor.old (error_kind error) (knows tty.new.pass) editor.new (W.contents tty.old.out) (W.contents tty.new.out)) }
         ensures refused { prompts.has_control (chars self.now.text.now) ≡ true → IsErrAnd result (λ error. error_kind error ≡ InvalidInput) × (tty.new ≡ tty.old) × (editor.new ≡ editor.old) }
         ensures allowed { OnOk result (prompts.has_control (chars self.now.text.now) ≡ false) }
         ensures features { tty.new.features ≡ tty.old.features }
@@ -605,7 +662,7 @@ impl<H: Helper> Prompt<'_, H> {
             return Err(io::Error::from(ErrorKind::InvalidInput));
         }
         match begin(tty, editor, self) {
-            Ok(row) => go_on(rt, tty, editor, self, row),
+            Ok(rows) => go_on(rt, tty, editor, self, rows),
             Err(error) => Err(error),
         }
     }
@@ -638,8 +695,8 @@ pub fn read_line<
 ) -> io::Result<Read<A>>
     ensures line { IfOk result (λ read. LineEnds S.drawn S.asked as_read (knows tty.old.pass) editor.old (answer_seen read) (knows tty.new.pass) editor.new) }
     ensures err { IfErr result (λ error. StopsAsking S.drawn S.asked as_read (knows tty.old.pass) editor.old (error_kind error) (knows tty.new.pass) editor.new) }
-    ensures written { IfOk result (λ read. LineEndsShown S.drawn S.asked (look_of as_read (λ _. []) prompt.now true) (knows tty.old.pass) editor.old (answer_seen read) (knows tty.new.pass) editor.new (W.contents tty.old.out) (W.contents tty.new.out)) }
-    ensures cut { IfErr result (λ error. StopsShown S.drawn S.asked (look_of as_read (λ _. []) prompt.now true) (knows tty.old.pass) editor.old (error_kind error) (knows tty.new.pass) editor.new (W.contents tty.old.out) (W.contents tty.new.out)) }
+    ensures written { IfOk result (λ read. LineEndsShown S.drawn S.asked (look_of as_read (λ _. []) prompt.now true true) (knows tty.old.pass) editor.old (answer_seen read) (knows tty.new.pass) editor.new (W.contents tty.old.out) (W.contents tty.new.out)) }
+    ensures cut { IfErr result (λ error. StopsShown S.drawn S.asked (look_of as_read (λ _. []) prompt.now true true) (knows tty.old.pass) editor.old (error_kind error) (knows tty.new.pass) editor.new (W.contents tty.old.out) (W.contents tty.new.out)) }
     ensures refused { prompts.has_control (chars prompt.now) ≡ true → IsErrAnd result (λ error. error_kind error ≡ InvalidInput) × (tty.new ≡ tty.old) × (editor.new ≡ editor.old) }
     ensures allowed { OnOk result (prompts.has_control (chars prompt.now) ≡ false) }
     ensures features { tty.new.features ≡ tty.old.features }

@@ -20,12 +20,15 @@
 //! A `Prompt` has more: a `Helper` completes the line at Tab, and shows a hint behind it. `Words` is one that completes names. A `HistoryFile`
 //! keeps the accepted lines from one run to the next.
 //!
-//! The line takes one row, and is seen through it as `Line::seen` says, in all columns of the window but the last. A key writes what it changes
-//! of the row: a letter that is typed at the line's end is one byte. That relies on the cursor's column after the last frame, so nothing else is
-//! written to the terminal while a line is read. A character that no cell of `screen` can hold, as a joiner of emoji, is shown as U+FFFD.
+//! The line takes as many rows as it needs, of all columns of the window but the last. If it needs more rows than the window has, it scrolls, with
+//! the cursor in sight. A row begins at each line feed. `Prompt::in_one_row` is for one row, through which the line is seen as `Line::seen` says. A
+//! key writes what it changes: a letter that is typed at the line's end is one byte. That relies on the cursor's column after the last frame, so
+//! nothing else is written to the terminal while a line is read. A character that no cell of `screen` can hold, as a joiner of emoji, is shown as
+//! U+FFFD.
 //!
-//! Ctrl-L clears the window, and draws the row at its top. After a resize the terminal is asked for the cursor's place, since a narrower window
-//! may have wrapped the row. One that doesn't answer isn't asked again in that call; then what was wrapped stays above.
+//! Ctrl-L clears the window, and draws the line at its top. After a resize the line is drawn anew in its place. The terminal is asked for
+//! the cursor's place, since a narrower window may have wrapped the rows. One that doesn't answer isn't asked again in that call; then what was
+//! wrapped stays above.
 //!
 //! It is built on `own_terminal`, `line_editor` and `screen`, by their public contracts, and on the crate `unicode_width` for columns.
 //!
@@ -42,21 +45,22 @@
 //! | a prompt with a control character is refused, and nothing was done; with one no line is returned | `Prompt::read_line`, `read_line` |
 //! | raw mode is on after a line, and stays on; the session's features stay as they are | `Prompt::read_line`, `read_line` |
 //! | the lines of several calls are those of all events that were read for them, but for those whose texts are too long | `laws::gives_lines` |
-//! | all that is written for a line is a list of pieces. A frame of the line follows each event that was taken, before the next one is read; an event that clears the window does so first. The bell rings at a text that is too long, and behind the frame at a search that finds nothing. After a resize comes an erasure, and before it at most the question for the cursor's place, if the prompt asks. Once the line has ended the row is left once, as far as the writer goes | `Prompt::read_line`, `read_line` |
+//! | all that is written for a line is a list of pieces. A frame of the line follows each event that was taken, before the next one is read; an event that clears the window does so first. The bell rings at a text that is too long, and behind the frame at a search that finds nothing. After a resize comes an erasure, and before it at most the question for the cursor's place, if the prompt asks; all rows that were shown are erased. Once the line has ended the rows are left once, as far as the writer goes | `Prompt::read_line`, `read_line` |
 //! | after an error a beginning of such a list was written, for the events that the editor took | `Prompt::read_line`, `read_line` |
 //! | while an incremental search goes on, what it looks for is shown in the prompt's place, and no hint | `Prompt::read_line`, `read_line` |
-//! | the cells of each frame: the prompt, if it leaves eight columns to the line; the line, as `Line::seen` sees it in some columns; behind it the hint, dimmed, if the cursor is at the line's end and there is room; and blanks | `Row::{draw, draw_next}`, `Prompt::read_line`, `read_line` |
-//! | a frame makes the row show these cells, with the cursor behind what was printed before it, and changes nothing else; at an error a beginning of one was written. What leaves a row, and what clears the window | `Row::{draw, draw_next, leaving, clearing}` |
-//! | a frame for who draws alone has no move, no style and no other control function that it doesn't need | `Row::draw_next`, `Prompt::read_line`, `read_line` |
+//! | the cells of each frame: the prompt, the line and the hint, wrapped into rows. The hint is dimmed, and shown if the cursor is at the line's end and the last row has room for it. All rows are in sight if they are no more than the window has, else as many as it has, with the cursor's | `Rows::{draw, draw_next}`, `Prompt::read_line`, `read_line` |
+//! | in one row: the prompt, if it leaves eight columns to the line; the line, as `Line::seen` sees it in some columns; behind it the hint, if there is room; and blanks | `Row::{draw, draw_next}`, `Rows::{draw, draw_next}`, `Prompt::read_line` |
+//! | a frame makes the rows show these cells, with the cursor behind what was printed before it, and changes nothing else; at an error a beginning of one was written. What leaves the rows, and what clears the window | `Rows::{draw, draw_next, leave, clear}`, `Row::{draw, draw_next, leaving, clearing}`, `Prompt::read_line`, `read_line` |
+//! | a frame for who draws alone has no move, no style and no other control function that it doesn't need | `Rows::draw_next`, `Row::draw_next`, `Prompt::read_line`, `read_line` |
 //! | names complete a text by the rest of the first that begins with it and goes on | `Helper::complete` of `Words` |
 //! | what is to be written to a history's file grows by the text of each line that is appended, unless the editor's limits leave the line out. No byte of it is lost: only what was written to a file goes, up to the start of a line, and the rest stays | `HistoryFile::append` |
 //! | that a history's file can't be read or written is returned once; if it wasn't, nothing is left to be written; refused memory changes nothing | `HistoryFile::{load, append}` |
 //!
-//! The row is drawn by `screen::Strip::draw_next`, so each frame makes it show some cells, and changes nothing else, if nothing but bells was
+//! The rows are drawn by `screen::Block::draw_next`, so each frame makes them show some cells, and changes nothing else, if nothing but bells was
 //! written since the last one. (A bell, BEL, moves no cursor; the definitions of `screen` don't speak of it.) The cursor is behind what was
-//! printed before it. It is only tested that the line is seen in as many columns as have room, which rows are erased after a resize, and how
-//! often a terminal that doesn't answer is asked. So it is that several programs append whole lines to one history's file, and that a part of a
-//! line is cut off again.
+//! printed before it. It is only tested that there are as many columns and rows as the window has, that a line is seen in one row in as many columns
+//! as have room, how many rows above its own are erased after a resize, and how often a terminal that doesn't answer is asked. So it is that several
+//! programs append whole lines to one history's file, and that a part of a line is cut off again.
 //!
 //! What to believe, in the order in which it reads (`specs/`), and the contracts that it is proved by:
 //!
@@ -67,9 +71,11 @@
 //! | `Completing` | what an editor is given for an event | `Prompt::read_line` |
 //! | `Asking` | what comes of asking for a line, event by event | `Prompt::read_line`, `read_line` |
 //! | `Lines` | the events and the lines of several calls | `laws::gives_lines` |
-//! | `Drawing` | how a line is drawn in the cursor's row | `Row` |
-//! | `Pictures` | which cells show a prompt, a line and a hint | `Row::{draw, draw_next}`, `Prompt::read_line`, `read_line` |
-//! | `Frames` | what is written to show a line: a frame of the row, the bell, an erasure | `Row::{draw, draw_next}`, `Prompt::read_line`, `read_line` |
+//! | `Drawing` | how a line is drawn in the cursor's row | `Row`, `Rows::clear` |
+//! | `Pictures` | which cells show a prompt, a line and a hint in one row | `Row::{draw, draw_next}`, `Prompt::read_line` |
+//! | `RowFrames` | what is written to show a line in the cursor's row | `Row::{draw, draw_next}` |
+//! | `Wrapping` | which cells show a prompt, a line and a hint in several rows | `Rows::{draw, draw_next}`, `Prompt::read_line`, `read_line` |
+//! | `Frames` | what is written to show a line: a frame of the rows, the bell, an erasure, and what leaves the rows | `Rows`, `Prompt::read_line`, `read_line` |
 //! | `Written` | what is written while a line is asked for, piece by piece | `Prompt::read_line`, `read_line` |
 //! | `Histories` | the lines that are appended to a history's file | `HistoryFile` |
 //!
@@ -81,11 +87,14 @@
 mod appending;
 mod asking;
 mod drawing;
+mod filling;
 mod helpers;
 mod histories;
 pub mod laws;
 mod prompts;
 mod read;
+mod reflow;
+mod rows;
 mod troubles;
 mod words;
 
@@ -96,5 +105,6 @@ pub use helpers::Helper;
 pub use histories::HistoryFile;
 pub use prompts::{is_shown, search_text};
 pub use read::Read;
+pub use rows::Rows;
 pub use troubles::HistoryTrouble;
 pub use words::Words;

@@ -10,7 +10,7 @@ use crossterm::event::source::{Act, DeviceSource, RawFlag, Script};
 use line_editor::{Editor, Limits};
 use linked_list_allocator::LocalHeap;
 use own_terminal::Session;
-use prompt::{Read, read_line};
+use prompt::{Prompt, Read, read_line};
 use std::alloc::{Allocator, Global};
 use std::io::{self, ErrorKind, Write};
 use std::sync::Wait;
@@ -64,23 +64,19 @@ struct Row {
 }
 
 /// The first frame of an empty line without a prompt.
-const EMPTY: &str = "\x1b[?2026h\x1b[0m\x1b[1G\x1b[K\x1b[0m\x1b[1G\x1b[?25h\x1b[?2026l";
+const EMPTY: &str = "\x1b[0m\x1b[?25h\x1b[1G\x1b[K";
 
 /// What leaves the row.
 const NEXT: &str = "\r\n";
 
 const ROWS: &[Row] = &[
-    // The first frame of a line erases the row, in one synchronized update. The next one is the letter that was typed.
+    // The first frame of a line erases the row. The next one is the letter that was typed.
     Row {
         typed: b"a\r",
         prompt: "> ",
         most: 9,
         comes: Comes::Line("a"),
-        written: &[
-            "\x1b[?2026h\x1b[0m\x1b[1G\x1b[K\x1b[1G\x1b[0m>\x1b[0m\x1b[3G\x1b[?25h\x1b[?2026l",
-            "a",
-            NEXT,
-        ],
+        written: &["\x1b[0m\x1b[?25h\x1b[1G\x1b[K> ", "a", NEXT],
     },
     // The cursor goes back, and nothing else is written.
     Row {
@@ -100,7 +96,7 @@ const ROWS: &[Row] = &[
             EMPTY,
             "a",
             "\x1b[2J\x1b[1;1H",
-            "\x1b[?2026h\x1b[0m\x1b[1G\x1b[K\x1b[1G\x1b[0ma\x1b[0m\x1b[2G\x1b[?25h\x1b[?2026l",
+            "\x1b[0m\x1b[?25h\x1b[1G\x1b[Ka",
             "b",
             NEXT,
         ],
@@ -142,23 +138,12 @@ const ROWS: &[Row] = &[
         comes: Comes::Fault(ErrorKind::UnexpectedEof),
         written: &[EMPTY],
     },
-    // A prompt of 72 columns leaves 7 of 79, and is left out; one of wide characters counts twice.
-    Row {
-        typed: b"\r",
-        prompt: "123456789012345678901234567890123456789012345678901234567890123456789012",
-        most: 9,
-        comes: Comes::Line(""),
-        written: &[EMPTY, NEXT],
-    },
     Row {
         typed: b"\r",
         prompt: "\u{4f60}\u{597d}",
         most: 9,
         comes: Comes::Line(""),
-        written: &[
-            "\x1b[?2026h\x1b[0m\x1b[1G\x1b[K\x1b[1G\x1b[0m\u{4f60}\u{597d}\x1b[0m\x1b[5G\x1b[?25h\x1b[?2026l",
-            NEXT,
-        ],
+        written: &["\x1b[0m\x1b[?25h\x1b[1G\x1b[K\u{4f60}\u{597d}", NEXT],
     },
     // A prompt with a control character is refused, and nothing is written.
     Row {
@@ -189,8 +174,8 @@ fn is_written(bytes: &[u8], texts: &[&str]) -> bool {
     rest.is_empty()
 }
 
-/// Whether a row comes and is written as it says.
-fn is_so<R: Wait>(rt: &R, alloc: Global, row: &Row) -> io::Result<bool> {
+/// Whether a row comes and is written as it says, wrapped or not.
+fn is_so<R: Wait>(rt: &R, alloc: Global, row: &Row, wraps: bool) -> io::Result<bool> {
     let calls = AtomicU32::new(0);
     let acts = Vec::from_array(alloc, [text(alloc, row.typed)?])?;
     let mut tty = begun(rt, alloc, acts, &calls, None, Vec::new(alloc))?;
@@ -199,14 +184,19 @@ fn is_so<R: Wait>(rt: &R, alloc: Global, row: &Row) -> io::Result<bool> {
         ..Limits::default()
     };
     let mut editor = Editor::new(alloc, limits)?;
-    let made = read_line(rt, &mut tty, &mut editor, row.prompt);
+    let made = if wraps {
+        read_line(rt, &mut tty, &mut editor, row.prompt)
+    } else {
+        let prompt = Prompt::new(row.prompt).in_one_row();
+        prompt.read_line(rt, &mut tty, &mut editor)
+    };
     Ok(came(made, row.comes) && is_written(&tty.out, row.written))
 }
 
 #[test]
 fn rows_of_keys_give_their_lines(rt: HostRuntime) -> io::Result<()> {
     for row in ROWS {
-        expect!(rt; is_so(&rt, rt.alloc(), row)?, row.prompt);
+        expect!(rt; is_so(&rt, rt.alloc(), row, true)?, row.prompt);
     }
     Ok(())
 }
@@ -301,7 +291,7 @@ fn a_device_of_modes_that_refuses_is_answered(rt: HostRuntime) -> io::Result<()>
 }
 
 /// What is written up to an accepted line: three drawings.
-const DRAWN: &str = "\x1b[?2026h\x1b[0m\x1b[1G\x1b[K\x1b[0m\x1b[1G\x1b[?25h\x1b[?2026lab";
+const DRAWN: &str = "\x1b[0m\x1b[?25h\x1b[1G\x1b[Kab";
 
 #[test]
 fn no_line_is_lost_by_a_writer_that_fails(rt: HostRuntime) -> io::Result<()> {

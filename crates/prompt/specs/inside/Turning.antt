@@ -51,7 +51,7 @@ MayQuery asks old new = ((asks ≡ true) × AppendsFront old new position_query)
 
 -- How far the line is shown once an event was taken.
 abbrev pub stage_after : Seen → Area → Stage
-stage_after e a = cond (resizes e) (Resized false) (Due a false)
+stage_after e a = cond (resizes e) (Resized a false) (Due a false)
 
 -- A turn leads on, to the line's end, or to an error, and what was written is known.
 abbrev pub LeadsShown : {S A : Type 0} → (S → List SourceAnswer → S → Type 0) → (S → List (Option Duration)) → PromptView → Known S → EditorState → Turn A → Known S → EditorState → Area → Option (List ℕ) → Option (List ℕ) → Type 0

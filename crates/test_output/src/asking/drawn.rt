@@ -1,7 +1,10 @@
 //! What is written of a line as keys are typed: what changed, a frame after the other.
 
-use super::{Comes, EMPTY, NEXT, Row, is_so};
+use super::{Comes, EMPTY, NEXT, Row, begun, came, is_so, is_written, typed};
+use line_editor::{Editor, Limits};
+use prompt::read_line;
 use std::io;
+use std::sync::atomic::AtomicU32;
 use test_support::expect;
 
 const ROWS: &[Row] = &[
@@ -77,6 +80,74 @@ const ROWS: &[Row] = &[
             NEXT,
         ],
     },
+    // A row of 79 columns is full, and the cursor is in the next one. At the line's start it is in the first again.
+    Row {
+        typed: b"\x1b[200~xxxxxxxxxxxxxxxxxxxxxxxxxxxxxxxxxxxxxxxxxxxxxxxxxxxxxxxxxxxxxxxxxxxxxxxxxxxxxxx\x1b[201~\x01\r",
+        prompt: "",
+        most: 99,
+        comes: Comes::Line(
+            "xxxxxxxxxxxxxxxxxxxxxxxxxxxxxxxxxxxxxxxxxxxxxxxxxxxxxxxxxxxxxxxxxxxxxxxxxxxxxxx",
+        ),
+        written: &[
+            EMPTY,
+            "\r\n\x1b[K\x1b[1Axxxxxxxxxxxxxxxxxxxxxxxxxxxxxxxxxxxxxxxxxxxxxxxxxxxxxxxxxxxxxxxxxxxxxxxxxxxxxxx\x1b[1G\x1b[1B",
+            "\x1b[1A",
+            NEXT,
+        ],
+    },
+    // What leaves the rows goes down to the last one, and from a row that only the cursor has back to the line's own.
+    Row {
+        typed: b"\x1b[200~xxxxxxxxxxxxxxxxxxxxxxxxxxxxxxxxxxxxxxxxxxxxxxxxxxxxxxxxxxxxxxxxxxxxxxxxxxxxxxxxxxxxx\x1b[201~\x01\r",
+        prompt: "",
+        most: 99,
+        comes: Comes::Line(
+            "xxxxxxxxxxxxxxxxxxxxxxxxxxxxxxxxxxxxxxxxxxxxxxxxxxxxxxxxxxxxxxxxxxxxxxxxxxxxxxxxxxxxx",
+        ),
+        written: &[
+            EMPTY,
+            "\r\n\x1b[K\x1b[1Axxxxxxxxxxxxxxxxxxxxxxxxxxxxxxxxxxxxxxxxxxxxxxxxxxxxxxxxxxxxxxxxxxxxxxxxxxxxxxx\x1b[1G\x1b[1Bxxxxxx",
+            "\x1b[1A\x1b[1G",
+            "\x1b[1B\r\n",
+        ],
+    },
+    Row {
+        typed: b"\x1b[200~xxxxxxxxxxxxxxxxxxxxxxxxxxxxxxxxxxxxxxxxxxxxxxxxxxxxxxxxxxxxxxxxxxxxxxxxxxxxxxx\x1b[201~\r",
+        prompt: "",
+        most: 99,
+        comes: Comes::Line(
+            "xxxxxxxxxxxxxxxxxxxxxxxxxxxxxxxxxxxxxxxxxxxxxxxxxxxxxxxxxxxxxxxxxxxxxxxxxxxxxxx",
+        ),
+        written: &[
+            EMPTY,
+            "\r\n\x1b[K\x1b[1Axxxxxxxxxxxxxxxxxxxxxxxxxxxxxxxxxxxxxxxxxxxxxxxxxxxxxxxxxxxxxxxxxxxxxxxxxxxxxxx\x1b[1G\x1b[1B",
+            "\x1b[1A\r\n",
+        ],
+    },
+    // A character of two columns that has no room in the first row is in the second one.
+    Row {
+        typed: b"\x1b[200~xxxxxxxxxxxxxxxxxxxxxxxxxxxxxxxxxxxxxxxxxxxxxxxxxxxxxxxxxxxxxxxxxxxxxxxxxxxxxx\xe6\xbc\xa2\x1b[201~\r",
+        prompt: "",
+        most: 99,
+        comes: Comes::Line(
+            "xxxxxxxxxxxxxxxxxxxxxxxxxxxxxxxxxxxxxxxxxxxxxxxxxxxxxxxxxxxxxxxxxxxxxxxxxxxxxx\u{6f22}",
+        ),
+        written: &[
+            EMPTY,
+            "\r\n\x1b[K\x1b[1Axxxxxxxxxxxxxxxxxxxxxxxxxxxxxxxxxxxxxxxxxxxxxxxxxxxxxxxxxxxxxxxxxxxxxxxxxxxxxx\x1b[1G\x1b[1B\u{6f22}",
+            NEXT,
+        ],
+    },
+];
+
+const IN_ONE_ROW: &[Row] = &[
+    // A prompt of 72 columns leaves 7 of 79, and is left out.
+    Row {
+        typed: b"\r",
+        prompt: "123456789012345678901234567890123456789012345678901234567890123456789012",
+        most: 9,
+        comes: Comes::Line(""),
+        written: &[EMPTY, NEXT],
+    },
     // Of 80 columns the last isn't written: the cursor is in the one before it, and then a character, with the cursor at the line's start.
     Row {
         typed: b"\x1b[200~xxxxxxxxxxxxxxxxxxxxxxxxxxxxxxxxxxxxxxxxxxxxxxxxxxxxxxxxxxxxxxxxxxxxxxxxxxxxxxxxxxxxxxxxxx\x1b[201~\x01\r",
@@ -101,7 +172,7 @@ const ROWS: &[Row] = &[
             "\u{2764}\u{fe0f}\u{2764}\u{fe0f}\u{2764}\u{fe0f}\u{2764}\u{fe0f}\u{2764}\u{fe0f}",
         ),
         written: &[
-            "\x1b[?2026h\x1b[0m\x1b[1G\x1b[K\x1b[1G\x1b[0mxxxxxxxxxxxxxxxxxxxxxxxxxxxxxxxxxxxxxxxxxxxxxxxxxxxxxxxxxxxxxxxxxxxxxx\x1b[0m\x1b[71G\x1b[?25h\x1b[?2026l",
+            "\x1b[0m\x1b[?25h\x1b[1G\x1b[Kxxxxxxxxxxxxxxxxxxxxxxxxxxxxxxxxxxxxxxxxxxxxxxxxxxxxxxxxxxxxxxxxxxxxxx",
             "\u{2764}\u{fffd}\u{2764}\u{fffd}\u{2764}\u{fffd}",
             NEXT,
         ],
@@ -111,7 +182,37 @@ const ROWS: &[Row] = &[
 #[test]
 fn what_changed_is_written(rt: HostRuntime) -> io::Result<()> {
     for row in ROWS {
-        expect!(rt; is_so(&rt, rt.alloc(), row)?);
+        expect!(rt; is_so(&rt, rt.alloc(), row, true)?);
     }
+    for row in IN_ONE_ROW {
+        expect!(rt; is_so(&rt, rt.alloc(), row, false)?);
+    }
+    Ok(())
+}
+
+#[test]
+fn a_line_feed_begins_a_row(rt: HostRuntime) -> io::Result<()> {
+    let alloc = rt.alloc();
+    let calls = AtomicU32::new(0);
+    // Alt-Enter types one. Up goes to the row above, and Delete joins both. Nothing is left of the second one.
+    let acts = typed(alloc, b"a\x1b\rb\x1b[A\x1b[3~\r")?;
+    let mut tty = begun(&rt, alloc, acts, &calls, None, Vec::new(alloc))?;
+    let limits = Limits {
+        multiline: true,
+        ..Limits::default()
+    };
+    let mut editor = Editor::new(alloc, limits)?;
+    let read = read_line(&rt, &mut tty, &mut editor, "");
+    expect!(rt; came(read, Comes::Line("ab")));
+    let written = [
+        EMPTY,
+        "a",
+        "\r\n\x1b[K",
+        "b",
+        "\x1b[1A",
+        "b\x1b[2G\x1b[1B\x1b[1G \x1b[1G\x1b[1A\x1b[2G",
+        NEXT,
+    ];
+    expect!(rt; is_written(&tty.out, &written));
     Ok(())
 }

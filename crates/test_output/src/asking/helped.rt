@@ -149,8 +149,8 @@ fn tab_completes_a_name(rt: HostRuntime) -> io::Result<()> {
     Ok(())
 }
 
-/// How many bytes are written as a name is completed and accepted: four frames, the hint's end, and the next row.
-const COMPLETED: usize = 41 + 50 + 39 + 50 + 5;
+/// How many bytes are written as a name is completed and accepted: three frames, the hint's end, and the next row.
+const COMPLETED: usize = EMPTY.len() + 21 + 1 + 22 + 5;
 
 /// Whether a line comes whole, in this call or the next, from a writer that fails after so many bytes.
 fn comes_whole<R: Wait>(rt: &R, alloc: Global, room: usize) -> io::Result<bool> {

@@ -28,6 +28,7 @@ struct Row {
     columns: u16,
     after: After,
     asks: bool,
+    wraps: bool,
     comes: &'static [Comes],
     /// What is written behind what is drawn of the whole text.
     written: &'static [u8],
@@ -39,7 +40,7 @@ const PASTED: &[u8] = b"\x1b[200~xxxxxxxxxxxxxxxxxxxxxxxxxxxxxxxxxxxxxxxxxxxxxxx
 
 /// The empty line, and the whole text.
 const DRAWN: &[u8] =
-    b"\x1b[?2026h\x1b[0m\x1b[1G\x1b[K\x1b[0m\x1b[1G\x1b[?25h\x1b[?2026lxxxxxxxxxxxxxxxxxxxxxxxxxxxxxxxxxxxxxxxxxxxxxxxxxx";
+    b"\x1b[0m\x1b[?25h\x1b[1G\x1b[Kxxxxxxxxxxxxxxxxxxxxxxxxxxxxxxxxxxxxxxxxxxxxxxxxxx";
 
 const ENDED: Comes = Comes::Line(X50);
 
@@ -48,7 +49,7 @@ const BLANKS: &[u8] = b"\x1b[200~xxxxxxxxxxxxxxxxxxxxxxxxxxxxxxxxxxxxxxxxxxxxx  
 
 /// The empty line, and that text.
 const BLANKS_DRAWN: &[u8] =
-    b"\x1b[?2026h\x1b[0m\x1b[1G\x1b[K\x1b[0m\x1b[1G\x1b[?25h\x1b[?2026lxxxxxxxxxxxxxxxxxxxxxxxxxxxxxxxxxxxxxxxxxxxxx\x1b[51G";
+    b"\x1b[0m\x1b[?25h\x1b[1G\x1b[Kxxxxxxxxxxxxxxxxxxxxxxxxxxxxxxxxxxxxxxxxxxxxx\x1b[51G";
 
 const ROWS: &[Row] = &[
     // The row was wrapped to two, and the cursor is in the second: it goes up.
@@ -56,76 +57,86 @@ const ROWS: &[Row] = &[
         columns: 40,
         after: After::Text(b"\x1b[2;11R\r"),
         asks: true,
+        wraps: true,
         comes: &[ENDED],
-        written: b"\x1b[6n\x1b[1A\x1b[1G\x1b[J\x1b[?2026h\x1b[0m\x1b[1G\x1b[K\x1b[1G\x1b[0mxxxxxxxxxxxxxxxxxxxxxxxxxxxxxxxxxxxxxx\x1b[0m\x1b[39G\x1b[?25h\x1b[?2026l\r\n",
+        written: b"\x1b[6n\x1b[1A\x1b[1G\x1b[J\x1b[0m\x1b[?25h\x1b[1G\x1b[K\r\n\x1b[K\x1b[1Axxxxxxxxxxxxxxxxxxxxxxxxxxxxxxxxxxxxxxx\x1b[1G\x1b[1Bxxxxxxxxxxx\r\n",
     },
     // It was cut.
     Row {
         columns: 40,
         after: After::Text(b"\x1b[1;40R\r"),
         asks: true,
+        wraps: true,
         comes: &[ENDED],
-        written: b"\x1b[6n\x1b[1G\x1b[J\x1b[?2026h\x1b[0m\x1b[1G\x1b[K\x1b[1G\x1b[0mxxxxxxxxxxxxxxxxxxxxxxxxxxxxxxxxxxxxxx\x1b[0m\x1b[39G\x1b[?25h\x1b[?2026l\r\n",
+        written: b"\x1b[6n\x1b[1G\x1b[J\x1b[0m\x1b[?25h\x1b[1G\x1b[K\r\n\x1b[K\x1b[1Axxxxxxxxxxxxxxxxxxxxxxxxxxxxxxxxxxxxxxx\x1b[1G\x1b[1Bxxxxxxxxxxx\r\n",
     },
     // What is typed before the answer stays in order.
     Row {
         columns: 40,
         after: After::Text(b"\x7f\x1b[2;11R\x7f\x03"),
         asks: true,
+        wraps: true,
         comes: &[Comes::Interrupted],
-        written: b"\x1b[6n\x1b[1A\x1b[1G\x1b[J\x1b[?2026h\x1b[0m\x1b[1G\x1b[K\x1b[1G\x1b[0mxxxxxxxxxxxxxxxxxxxxxxxxxxxxxxxxxxxxxx\x1b[0m\x1b[39G\x1b[?25h\x1b[?2026l\r\n",
+        written: b"\x1b[6n\x1b[1A\x1b[1G\x1b[J\x1b[0m\x1b[?25h\x1b[1G\x1b[K\r\n\x1b[K\x1b[1Axxxxxxxxxxxxxxxxxxxxxxxxxxxxxxxxxxxxxxx\x1b[1G\x1b[1Bxxxxxxxxxxx\x1b[11G \x1b[11G\x1b[10G \x1b[10G\r\n",
     },
     // A terminal that doesn't answer isn't asked at the next resize.
     Row {
         columns: 40,
         after: After::Nothing,
         asks: true,
+        wraps: true,
         comes: &[ENDED],
-        written: b"\x1b[6n\x1b[1G\x1b[J\x1b[?2026h\x1b[0m\x1b[1G\x1b[K\x1b[1G\x1b[0mxxxxxxxxxxxxxxxxxxxxxxxxxxxxxxxxxxxxxx\x1b[0m\x1b[39G\x1b[?25h\x1b[?2026l\x1b[1G\x1b[J\x1b[?2026h\x1b[0m\x1b[1G\x1b[K\x1b[1G\x1b[0mxxxxxxxxxxxxxxxxxxxxxxxxxxxxxxxxxxxxxx\x1b[0m\x1b[39G\x1b[?25h\x1b[?2026l\r\n",
+        written: b"\x1b[6n\x1b[1G\x1b[J\x1b[0m\x1b[?25h\x1b[1G\x1b[K\r\n\x1b[K\x1b[1Axxxxxxxxxxxxxxxxxxxxxxxxxxxxxxxxxxxxxxx\x1b[1G\x1b[1Bxxxxxxxxxxx\x1b[1A\x1b[1G\x1b[J\x1b[0m\x1b[?25h\x1b[1G\x1b[K\r\n\x1b[K\x1b[1Axxxxxxxxxxxxxxxxxxxxxxxxxxxxxxxxxxxxxxx\x1b[1G\x1b[1Bxxxxxxxxxxx\r\n",
     },
     // Nor is one that isn't to be asked.
     Row {
         columns: 40,
         after: After::Text(b"\r"),
         asks: false,
+        wraps: true,
         comes: &[ENDED],
-        written: b"\x1b[1G\x1b[J\x1b[?2026h\x1b[0m\x1b[1G\x1b[K\x1b[1G\x1b[0mxxxxxxxxxxxxxxxxxxxxxxxxxxxxxxxxxxxxxx\x1b[0m\x1b[39G\x1b[?25h\x1b[?2026l\r\n",
+        written: b"\x1b[1G\x1b[J\x1b[0m\x1b[?25h\x1b[1G\x1b[K\r\n\x1b[K\x1b[1Axxxxxxxxxxxxxxxxxxxxxxxxxxxxxxxxxxxxxxx\x1b[1G\x1b[1Bxxxxxxxxxxx\r\n",
     },
     // A question that fails ends the call, and the next one goes on with the line, in 40 columns.
     Row {
         columns: 40,
         after: After::Fault,
         asks: true,
+        wraps: true,
         comes: &[Comes::Fault(ErrorKind::TimedOut), ENDED],
-        written: b"\x1b[6n\x1b[?2026h\x1b[0m\x1b[1G\x1b[K\x1b[1G\x1b[0mxxxxxxxxxxxxxxxxxxxxxxxxxxxxxxxxxxxxxx\x1b[0m\x1b[39G\x1b[?25h\x1b[?2026l\r\n",
+        written: b"\x1b[6n\x1b[0m\x1b[?25h\x1b[1G\x1b[K\r\n\x1b[K\x1b[1Axxxxxxxxxxxxxxxxxxxxxxxxxxxxxxxxxxxxxxx\x1b[1G\x1b[1Bxxxxxxxxxxx\r\n",
     },
     // In more columns all is drawn anew too.
     Row {
         columns: 100,
         after: After::Text(b"\x1b[1;51R\r"),
         asks: true,
+        wraps: true,
         comes: &[ENDED],
-        written: b"\x1b[6n\x1b[1G\x1b[J\x1b[?2026h\x1b[0m\x1b[1G\x1b[K\x1b[1G\x1b[0mxxxxxxxxxxxxxxxxxxxxxxxxxxxxxxxxxxxxxxxxxxxxxxxxxx\x1b[0m\x1b[51G\x1b[?25h\x1b[?2026l\r\n",
+        written: b"\x1b[6n\x1b[1G\x1b[J\x1b[0m\x1b[?25h\x1b[1G\x1b[Kxxxxxxxxxxxxxxxxxxxxxxxxxxxxxxxxxxxxxxxxxxxxxxxxxx\r\n",
     },
-    // Three columns show one, two the cursor alone, and one nothing.
+    // In one row three columns show one, two the cursor alone, and one nothing.
     Row {
         columns: 3,
         after: After::Text(b"\x1b[17;3R\r"),
         asks: true,
+        wraps: false,
         comes: &[ENDED],
-        written: b"\x1b[6n\x1b[1G\x1b[J\x1b[?2026h\x1b[0m\x1b[1G\x1b[K\x1b[1G\x1b[0mx\x1b[0m\x1b[2G\x1b[?25h\x1b[?2026l\r\n",
+        written: b"\x1b[6n\x1b[1G\x1b[J\x1b[0m\x1b[?25h\x1b[1G\x1b[Kx\r\n",
     },
     Row {
         columns: 2,
         after: After::Text(b"\x1b[25;2R\r"),
         asks: true,
+        wraps: false,
         comes: &[ENDED],
-        written: b"\x1b[6n\x1b[1G\x1b[J\x1b[?2026h\x1b[0m\x1b[1G\x1b[K\x1b[0m\x1b[1G\x1b[?25h\x1b[?2026l\r\n",
+        written: b"\x1b[6n\x1b[1G\x1b[J\x1b[0m\x1b[?25h\x1b[1G\x1b[K\r\n",
     },
     Row {
         columns: 1,
         after: After::Text(b"\x1b[50;1R\r"),
         asks: true,
+        wraps: false,
         comes: &[ENDED],
         written: b"\x1b[6n\x1b[1G\x1b[J\r\n",
     },
@@ -134,8 +145,9 @@ const ROWS: &[Row] = &[
         columns: 0,
         after: After::Text(b"\x1b[1;51R\r"),
         asks: true,
+        wraps: true,
         comes: &[ENDED],
-        written: b"\x1b[6n\x1b[1G\x1b[J\x1b[?2026h\x1b[0m\x1b[1G\x1b[K\x1b[1G\x1b[0mxxxxxxxxxxxxxxxxxxxxxxxxxxxxxxxxxxxxxxxxxxxxxxxxxx\x1b[0m\x1b[51G\x1b[?25h\x1b[?2026l\r\n",
+        written: b"\x1b[6n\x1b[1G\x1b[J\x1b[0m\x1b[?25h\x1b[1G\x1b[Kxxxxxxxxxxxxxxxxxxxxxxxxxxxxxxxxxxxxxxxxxxxxxxxxxx\r\n",
     },
 ];
 
@@ -174,6 +186,9 @@ fn is_so<R: Wait>(
     let mut prompt = Prompt::new("");
     if !row.asks {
         prompt = prompt.without_questions();
+    }
+    if !row.wraps {
+        prompt = prompt.in_one_row();
     }
     for it in comes {
         if !came(prompt.read_line(rt, &mut tty, &mut editor), *it) {
@@ -222,7 +237,7 @@ fn is_written_in_forty<R: Wait>(
 fn a_terminal_that_keeps_no_blanks_leaves_no_row(rt: HostRuntime) -> io::Result<()> {
     // The cursor is behind what was kept of the second row, or behind its blanks.
     const UP: &[u8] =
-        b"\x1b[6n\x1b[1A\x1b[1G\x1b[J\x1b[?2026h\x1b[0m\x1b[1G\x1b[K\x1b[1G\x1b[0mxxxxxxxxxxxxxxxxxxxxxxxxxxxxxxxxx\x1b[0m\x1b[39G\x1b[?25h\x1b[?2026l\r\n";
+        b"\x1b[6n\x1b[1A\x1b[1G\x1b[J\x1b[0m\x1b[?25h\x1b[1G\x1b[K\r\n\x1b[K\x1b[1Axxxxxxxxxxxxxxxxxxxxxxxxxxxxxxxxxxxxxxx\x1b[1G\x1b[1Bxxxxxx\x1b[12G\r\n";
     expect!(rt; is_written_in_forty(&rt, rt.alloc(), BLANKS, BLANKS_DRAWN, b"\x1b[2;6R\x03", UP)?);
     expect!(rt; is_written_in_forty(&rt, rt.alloc(), BLANKS, BLANKS_DRAWN, b"\x1b[2;11R\x03", UP)?);
     Ok(())
@@ -234,9 +249,9 @@ fn a_wide_character_at_the_edge_goes_to_the_next_row(rt: HostRuntime) -> io::Res
     const WIDE: &[u8] =
         b"\x1b[200~xxxxxxxxxxxxxxxxxxxxxxxxxxxxxxxxxxxxxxx\xe6\xbc\xa2xxxxxxxxxx\x1b[201~";
     const WIDE_DRAWN: &[u8] =
-        b"\x1b[?2026h\x1b[0m\x1b[1G\x1b[K\x1b[0m\x1b[1G\x1b[?25h\x1b[?2026lxxxxxxxxxxxxxxxxxxxxxxxxxxxxxxxxxxxxxxx\xe6\xbc\xa2xxxxxxxxxx";
+        b"\x1b[0m\x1b[?25h\x1b[1G\x1b[Kxxxxxxxxxxxxxxxxxxxxxxxxxxxxxxxxxxxxxxx\xe6\xbc\xa2xxxxxxxxxx";
     const UP: &[u8] =
-        b"\x1b[6n\x1b[1A\x1b[1G\x1b[J\x1b[?2026h\x1b[0m\x1b[1G\x1b[K\x1b[1G\x1b[0mxxxxxxxxxxxxxxxxxxxxxxxxxx\xe6\xbc\xa2xxxxxxxxxx\x1b[0m\x1b[39G\x1b[?25h\x1b[?2026l\r\n";
+        b"\x1b[6n\x1b[1A\x1b[1G\x1b[J\x1b[0m\x1b[?25h\x1b[1G\x1b[K\r\n\x1b[K\x1b[1Axxxxxxxxxxxxxxxxxxxxxxxxxxxxxxxxxxxxxxx\x1b[1G\x1b[1B\xe6\xbc\xa2xxxxxxxxxx\r\n";
     expect!(rt; is_written_in_forty(&rt, rt.alloc(), WIDE, WIDE_DRAWN, b"\x1b[2;13R\x03", UP)?);
     Ok(())
 }

@@ -27,7 +27,7 @@ returns-else-eq-clause-asked g c =
 pub returns-in-Ok-clause-query : goal.returns-in-Ok-clause-query
 returns-in-Ok-clause-query g c =
     inl (
-      c.if-not-row.false,
+      c.if-not-rows.false,
       querying.asks _ _ _ _ _ (g.W.Write.contents c.args.tty.now.out) (g.W.Write.contents c.position.new.self.out) position_query
           _ _ _ c.position.result c.position.ensures.query,
     )
@@ -35,7 +35,7 @@ returns-in-Ok-clause-query g c =
 pub returns-then-eq-clause-query : goal.returns-then-eq-clause-query
 returns-then-eq-clause-query g c =
     inl (
-      c.if-not-row.false,
+      c.if-not-rows.false,
       querying.asks _ _ _ _ _ (g.W.Write.contents c.args.tty.now.out) (g.W.Write.contents c.position.new.self.out) position_query
           _ _ _ c.position.result c.position.ensures.query,
     )
@@ -43,7 +43,7 @@ returns-then-eq-clause-query g c =
 pub returns-else-eq-clause-query : goal.returns-else-eq-clause-query
 returns-else-eq-clause-query g c =
     inl (
-      c.if-not-row.false,
+      c.if-not-rows.false,
       querying.asks _ _ _ _ _ (g.W.Write.contents c.args.tty.now.out) (g.W.Write.contents c.position.new.self.out) position_query
           _ _ _ c.position.result c.position.ensures.query,
     )

@@ -3,17 +3,17 @@ use Rattle.std.proofs.Common.{◌≡◌, ℕ, true, false, IsTrue, List, [], Opt
 use Rattle.crossterm_read.specs.PassViews.{knows}
 use Rattle.prompt.specs.Asking.{GoesOn}
 use Rattle.prompt.specs.Completing.{given_by}
-use Rattle.prompt.specs.Frames.{area}
+use Rattle.prompt.specs.Frames.{area_of}
 use Rattle.prompt.specs.Written.{GoesOnShown, HasWritten, Shows, look_of}
 use Rattle.prompt.proofs.asking.go_on.Given as goal
 
 abbrev pub invariant-loop : goal.invariant-loop
 invariant-loop g l = record {
   goes : GoesOn g.S.EventSource.drawn g.S.EventSource.asked (given_by (g.H.Helper.completes l.fn.prompt.helper.now)) (knows l.fn.tty.pass) l.fn.editor (knows l.tty.pass) l.editor;
-  shown : (out : Option (List ℕ)) → (l.fn.row.is_asked ≡ true → l.fn.prompt.asks ≡ true)
-      → HasWritten (look_of (given_by (g.H.Helper.completes l.fn.prompt.helper.now)) (g.H.Helper.hints l.fn.prompt.helper.now) l.fn.prompt.text.now l.fn.prompt.asks) l.fn.editor [] l.fn.editor (Shows (area l.fn.row.strip l.fn.row.has_hint) false) out (g.W.Write.contents l.fn.tty.out)
-      → GoesOnShown g.S.EventSource.drawn g.S.EventSource.asked (look_of (given_by (g.H.Helper.completes l.fn.prompt.helper.now)) (g.H.Helper.hints l.fn.prompt.helper.now) l.fn.prompt.text.now l.fn.prompt.asks) (knows l.fn.tty.pass) l.fn.editor (knows l.tty.pass) l.editor (area l.row.strip l.row.has_hint) out (g.W.Write.contents l.tty.out);
-  fewer : l.row.is_asked ≡ true → l.fn.row.is_asked ≡ true;
+  shown : (out : Option (List ℕ)) → (l.fn.rows.is_asked ≡ true → l.fn.prompt.asks ≡ true)
+      → HasWritten (look_of (given_by (g.H.Helper.completes l.fn.prompt.helper.now)) (g.H.Helper.hints l.fn.prompt.helper.now) l.fn.prompt.text.now l.fn.prompt.asks l.fn.prompt.wraps) l.fn.editor [] l.fn.editor (Shows (area_of l.fn.rows) false) out (g.W.Write.contents l.fn.tty.out)
+      → GoesOnShown g.S.EventSource.drawn g.S.EventSource.asked (look_of (given_by (g.H.Helper.completes l.fn.prompt.helper.now)) (g.H.Helper.hints l.fn.prompt.helper.now) l.fn.prompt.text.now l.fn.prompt.asks l.fn.prompt.wraps) (knows l.fn.tty.pass) l.fn.editor (knows l.tty.pass) l.editor (area_of l.rows) out (g.W.Write.contents l.tty.out);
+  fewer : l.rows.is_asked ≡ true → l.fn.rows.is_asked ≡ true;
   features : l.tty.features ≡ l.fn.tty.features;
   mode : IsTrue (is_some l.fn.tty.term.prior) → l.tty.term.prior ≡ l.fn.tty.term.prior;
   can : (goal.iterator-loop g).can_next l.iterator';

@@ -1,5 +1,5 @@
 use Rattle.std.proofs.Common.{Bool, cond, false, subst, sym, ◌∙◌}
-use Rattle.prompt.specs.Frames.{area}
+use Rattle.prompt.specs.Frames.{area_of}
 use Rattle.prompt.specs.Written.{Due, HasWritten, Resized, look_of}
 use Rattle.prompt.proofs.Sending.{err_with, ok_with}
 use Rattle.prompt.proofs.Showing.{shows, shows_front}
@@ -7,32 +7,32 @@ use Rattle.prompt.proofs.asking.show_after.Goals as goal
 
 pub returns-then-is_resize-clause-shows : goal.returns-then-is_resize-clause-shows
 returns-then-is_resize-clause-shows g c given w es out may h =
-    let look = look_of given (g.H.Helper.hints c.args.prompt.now.helper.now) c.args.prompt.now.text.now c.args.prompt.now.asks in
-    let a = area c.args.row.now.strip c.args.row.now.has_hint in
+    let look = look_of given (g.H.Helper.hints c.args.prompt.now.helper.now) c.args.prompt.now.text.now c.args.prompt.now.asks c.args.prompt.now.wraps in
+    let a = area_of c.args.rows.now in
     let old = g.W.Write.contents c.args.tty.now.out in
-    let now = subst (λ (b : Bool). HasWritten look w es c.args.editor.now (cond b (Resized false) (Due a false)) out old) (sym c.is_resize.ensures ∙ c.if-is_resize.true) h in
+    let now = subst (λ (b : Bool). HasWritten look w es c.args.editor.now (cond b (Resized a false) (Due a false)) out old) (sym c.is_resize.ensures ∙ c.if-is_resize.true) h in
     c.show_anew.ensures.shows given w es out may now
 
 pub returns-then-is_resize-clause-stops : goal.returns-then-is_resize-clause-stops
 returns-then-is_resize-clause-stops g c given w es out may h =
-    let look = look_of given (g.H.Helper.hints c.args.prompt.now.helper.now) c.args.prompt.now.text.now c.args.prompt.now.asks in
-    let a = area c.args.row.now.strip c.args.row.now.has_hint in
+    let look = look_of given (g.H.Helper.hints c.args.prompt.now.helper.now) c.args.prompt.now.text.now c.args.prompt.now.asks c.args.prompt.now.wraps in
+    let a = area_of c.args.rows.now in
     let old = g.W.Write.contents c.args.tty.now.out in
-    let now = subst (λ (b : Bool). HasWritten look w es c.args.editor.now (cond b (Resized false) (Due a false)) out old) (sym c.is_resize.ensures ∙ c.if-is_resize.true) h in
+    let now = subst (λ (b : Bool). HasWritten look w es c.args.editor.now (cond b (Resized a false) (Due a false)) out old) (sym c.is_resize.ensures ∙ c.if-is_resize.true) h in
     c.show_anew.ensures.stops given w es out may now
 
 pub returns-else-is_resize-clause-shows : goal.returns-else-is_resize-clause-shows
 returns-else-is_resize-clause-shows g c given w es out may h =
-    let look = look_of given (g.H.Helper.hints c.args.prompt.now.helper.now) c.args.prompt.now.text.now c.args.prompt.now.asks in
-    let a = area c.args.row.now.strip c.args.row.now.has_hint in
+    let look = look_of given (g.H.Helper.hints c.args.prompt.now.helper.now) c.args.prompt.now.text.now c.args.prompt.now.asks c.args.prompt.now.wraps in
+    let a = area_of c.args.rows.now in
     let old = g.W.Write.contents c.args.tty.now.out in
-    let now = subst (λ (b : Bool). HasWritten look w es c.args.editor.now (cond b (Resized false) (Due a false)) out old) (sym c.is_resize.ensures ∙ c.if-is_resize.false) h in
-    ok_with c.show.result (λ d. shows look w es c.args.editor.now a (area c.show.new.row.strip c.show.new.row.has_hint) false out old (g.W.Write.contents c.show.new.out) now d) c.show.ensures.shows
+    let now = subst (λ (b : Bool). HasWritten look w es c.args.editor.now (cond b (Resized a false) (Due a false)) out old) (sym c.is_resize.ensures ∙ c.if-is_resize.false) h in
+    ok_with c.show.result (λ d. shows look w es c.args.editor.now a (area_of c.show.new.rows) false out old (g.W.Write.contents c.show.new.out) now d) c.show.ensures.shows
 
 pub returns-else-is_resize-clause-stops : goal.returns-else-is_resize-clause-stops
 returns-else-is_resize-clause-stops g c given w es out may h =
-    let look = look_of given (g.H.Helper.hints c.args.prompt.now.helper.now) c.args.prompt.now.text.now c.args.prompt.now.asks in
-    let a = area c.args.row.now.strip c.args.row.now.has_hint in
+    let look = look_of given (g.H.Helper.hints c.args.prompt.now.helper.now) c.args.prompt.now.text.now c.args.prompt.now.asks c.args.prompt.now.wraps in
+    let a = area_of c.args.rows.now in
     let old = g.W.Write.contents c.args.tty.now.out in
-    let now = subst (λ (b : Bool). HasWritten look w es c.args.editor.now (cond b (Resized false) (Due a false)) out old) (sym c.is_resize.ensures ∙ c.if-is_resize.false) h in
+    let now = subst (λ (b : Bool). HasWritten look w es c.args.editor.now (cond b (Resized a false) (Due a false)) out old) (sym c.is_resize.ensures ∙ c.if-is_resize.false) h in
     err_with c.show.result (λ d. shows_front look w es c.args.editor.now a false out old (g.W.Write.contents c.show.new.out) now d) c.show.ensures.stops

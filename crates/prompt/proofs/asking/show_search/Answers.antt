@@ -5,7 +5,7 @@ use Rattle.std.proofs.lemmas.Str.{encodes-chars}
 use Rattle.line_editor.specs.Seeking.{is_ahead}
 use Rattle.line_editor.specs.Splits.{Split}
 use Rattle.prompt.specs.Drawing.{search_text}
-use Rattle.prompt.specs.Frames.{Draws, DrawsFront, area}
+use Rattle.prompt.specs.Frames.{Draws, DrawsFront, area_of}
 use Rattle.prompt.proofs.Drawn.{none}
 use Rattle.prompt.proofs.Sending.{err_of}
 use Rattle.prompt.proofs.asking.show_search.Goals as goal
@@ -13,7 +13,7 @@ use Rattle.prompt.proofs.asking.show_search.Goals as goal
 pub returns-in_err-text-clause-stops : goal.returns-in_err-text-clause-stops
 returns-in_err-text-clause-stops g c =
     let old = g.W.Write.contents c.args.out.now in
-    err_of c.from_residual.result (none (search_text (is_ahead c.args.editor.now.last) (encode_utf8_all (chars c.args.pattern.now))) c.args.editor.now.line [] c.args.row.now.strip c.args.row.now.has_hint old old (Appends-nil old))
+    err_of c.from_residual.result (none (search_text (is_ahead c.args.editor.now.last) (encode_utf8_all (chars c.args.pattern.now))) c.args.editor.now.line [] (area_of c.args.rows.now) old old (Appends-nil old))
 
 pub returns-clause-shows : goal.returns-clause-shows
 returns-clause-shows g c =
@@ -21,8 +21,8 @@ returns-clause-shows g c =
     ∙ ap (λ t. search_text (is_ahead c.args.editor.now.last) t) (sym (encodes-chars c.args.pattern.now c.utf8.pattern)) in
     let old = g.W.Write.contents c.args.out.now in
     let new = g.W.Write.contents c.draw_next.new.out in
-    let a = area c.args.row.now.strip c.args.row.now.has_hint in
-    let b = area c.draw_next.new.self.strip c.draw_next.new.self.has_hint in
+    let a = area_of c.args.rows.now in
+    let b = area_of c.draw_next.new.self in
     subst (λ (l : Split). OnOk c.draw_next.result (Draws (search_text (is_ahead c.args.editor.now.last) (encode_utf8_all (chars c.args.pattern.now))) l [] a b old new)) c.line.ensures
     (subst (λ (t : List ℕ). OnOk c.draw_next.result (Draws t c.line.result.now [] a b old new)) text c.draw_next.ensures.shows)
 
@@ -32,6 +32,6 @@ returns-clause-stops g c =
     ∙ ap (λ t. search_text (is_ahead c.args.editor.now.last) t) (sym (encodes-chars c.args.pattern.now c.utf8.pattern)) in
     let old = g.W.Write.contents c.args.out.now in
     let new = g.W.Write.contents c.draw_next.new.out in
-    let a = area c.args.row.now.strip c.args.row.now.has_hint in
+    let a = area_of c.args.rows.now in
     subst (λ (l : Split). OnErr c.draw_next.result (DrawsFront (search_text (is_ahead c.args.editor.now.last) (encode_utf8_all (chars c.args.pattern.now))) l [] a old new)) c.line.ensures
     (subst (λ (t : List ℕ). OnErr c.draw_next.result (DrawsFront t c.line.result.now [] a old new)) text c.draw_next.ensures.stops)

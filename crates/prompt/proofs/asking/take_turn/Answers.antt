@@ -7,8 +7,7 @@ use Rattle.prompt.specs.Asking.{answer_seen, broke, stopped}
 use Rattle.prompt.specs.Completing.{given_by}
 use Rattle.prompt.proofs.Turning.{goes_further, goes_on_asked, refuses}
 use Rattle.crossterm_command.proofs.Taking.{at_ok}
-use Rattle.prompt.specs.Drawing.{leaving}
-use Rattle.prompt.specs.Frames.{area}
+use Rattle.prompt.specs.Frames.{area_of, leaving_area}
 use Rattle.prompt.specs.Lines.{going_on_events}
 use Rattle.prompt.specs.Written.{Shows, look_of}
 use Rattle.prompt.proofs.Sending.{at_err}
@@ -77,8 +76,8 @@ returns-clause-leads g c v w goes =
 pub returns-in-Err-clause-written : goal.returns-in-Err-clause-written
 returns-in-Err-clause-written g c v w out may s =
     let given = given_by (g.H.Helper.completes c.args.prompt.now.helper.now) in
-    let look = look_of given (g.H.Helper.hints c.args.prompt.now.helper.now) c.args.prompt.now.text.now c.args.prompt.now.asks in
-    let a = area c.args.row.now.strip c.args.row.now.has_hint in
+    let look = look_of given (g.H.Helper.hints c.args.prompt.now.helper.now) c.args.prompt.now.text.now c.args.prompt.now.asks c.args.prompt.now.wraps in
+    let a = area_of c.args.rows.now in
     record {
       stops = broke (knows c.args.tty.now.pass) s.goes c.in-Err.ensures.call;
       written = all_of look w (going_on_events s.goes) c.args.editor.now (Shows a false) out (g.W.Write.contents c.read.new.self.out)
@@ -88,21 +87,21 @@ returns-in-Err-clause-written g c v w out may s =
 pub returns-in-Ok-show_after-clause-written : goal.returns-in-Ok-show_after-clause-written
 returns-in-Ok-show_after-clause-written g c v w out may s =
     let given = given_by (g.H.Helper.completes c.args.prompt.now.helper.now) in
-    let look = look_of given (g.H.Helper.hints c.args.prompt.now.helper.now) c.args.prompt.now.text.now c.args.prompt.now.asks in
-    let a = area c.args.row.now.strip c.args.row.now.has_hint in
+    let look = look_of given (g.H.Helper.hints c.args.prompt.now.helper.now) c.args.prompt.now.text.now c.args.prompt.now.asks c.args.prompt.now.wraps in
+    let a = area_of c.args.rows.now in
     let e = seen_event c.in-Ok.event in
     let es = going_on_events s.goes ++ e ∷ [] in
     let written = moved look w g.W.Write.contents (going_on_events s.goes) c.args.editor.now (Shows a false) out c.args.tty.now.out c.read.new.self.out c.in-Ok.ensures.others.0 s.written in
     let on = went_on g.S.EventSource.drawn g.S.EventSource.asked look v w (knows c.args.tty.now.pass) (knows c.read.new.self.pass) (knows c.show_after.new.tty.pass) c.args.editor.now c.take.new.editor e s.goes c.in-Ok.ensures.call turns.Going tt c.in-Going.ensures.0 c.show_after.ensures.asked in
     let due = takes look w (going_on_events s.goes) c.args.editor.now c.take.new.editor a e out (g.W.Write.contents c.read.new.self.out) written c.in-Going.ensures.1 c.in-Going.ensures.0 in
-    goes_shown g.S.EventSource.drawn g.S.EventSource.asked look v w (knows c.show_after.new.tty.pass) c.take.new.editor es (area c.show_after.new.row.strip c.show_after.new.row.has_hint) out
+    goes_shown g.S.EventSource.drawn g.S.EventSource.asked look v w (knows c.show_after.new.tty.pass) c.take.new.editor es (area_of c.show_after.new.rows) out
     (g.W.Write.contents c.show_after.new.tty.out) on (at_ok c.in-Ok-show_after.is (c.show_after.ensures.shows given w es out may due))
 
 pub returns-in-Going-clause-written : goal.returns-in-Going-clause-written
 returns-in-Going-clause-written g c v w out may s =
     let given = given_by (g.H.Helper.completes c.args.prompt.now.helper.now) in
-    let look = look_of given (g.H.Helper.hints c.args.prompt.now.helper.now) c.args.prompt.now.text.now c.args.prompt.now.asks in
-    let a = area c.args.row.now.strip c.args.row.now.has_hint in
+    let look = look_of given (g.H.Helper.hints c.args.prompt.now.helper.now) c.args.prompt.now.text.now c.args.prompt.now.asks c.args.prompt.now.wraps in
+    let a = area_of c.args.rows.now in
     let e = seen_event c.in-Ok.event in
     let es = going_on_events s.goes ++ e ∷ [] in
     let written = moved look w g.W.Write.contents (going_on_events s.goes) c.args.editor.now (Shows a false) out c.args.tty.now.out c.read.new.self.out c.in-Ok.ensures.others.0 s.written in
@@ -114,8 +113,8 @@ returns-in-Going-clause-written g c v w out may s =
 pub returns-in-Ok-ring-clause-written : goal.returns-in-Ok-ring-clause-written
 returns-in-Ok-ring-clause-written g c v w out may s =
     let given = given_by (g.H.Helper.completes c.args.prompt.now.helper.now) in
-    let look = look_of given (g.H.Helper.hints c.args.prompt.now.helper.now) c.args.prompt.now.text.now c.args.prompt.now.asks in
-    let a = area c.args.row.now.strip c.args.row.now.has_hint in
+    let look = look_of given (g.H.Helper.hints c.args.prompt.now.helper.now) c.args.prompt.now.text.now c.args.prompt.now.asks c.args.prompt.now.wraps in
+    let a = area_of c.args.rows.now in
     let e = seen_event c.in-Ok.event in
     let es = going_on_events s.goes ++ e ∷ [] in
     let written = moved look w g.W.Write.contents (going_on_events s.goes) c.args.editor.now (Shows a false) out c.args.tty.now.out c.read.new.self.out c.in-Ok.ensures.others.0 s.written in
@@ -128,8 +127,8 @@ returns-in-Ok-ring-clause-written g c v w out may s =
 pub returns-in-TooLong-clause-written : goal.returns-in-TooLong-clause-written
 returns-in-TooLong-clause-written g c v w out may s =
     let given = given_by (g.H.Helper.completes c.args.prompt.now.helper.now) in
-    let look = look_of given (g.H.Helper.hints c.args.prompt.now.helper.now) c.args.prompt.now.text.now c.args.prompt.now.asks in
-    let a = area c.args.row.now.strip c.args.row.now.has_hint in
+    let look = look_of given (g.H.Helper.hints c.args.prompt.now.helper.now) c.args.prompt.now.text.now c.args.prompt.now.asks c.args.prompt.now.wraps in
+    let a = area_of c.args.rows.now in
     let e = seen_event c.in-Ok.event in
     let es = going_on_events s.goes ++ e ∷ [] in
     let written = moved look w g.W.Write.contents (going_on_events s.goes) c.args.editor.now (Shows a false) out c.args.tty.now.out c.read.new.self.out c.in-Ok.ensures.others.0 s.written in
@@ -142,20 +141,20 @@ returns-in-TooLong-clause-written g c v w out may s =
 pub returns-in-Ended-clause-written : goal.returns-in-Ended-clause-written
 returns-in-Ended-clause-written g c v w out may s =
     let given = given_by (g.H.Helper.completes c.args.prompt.now.helper.now) in
-    let look = look_of given (g.H.Helper.hints c.args.prompt.now.helper.now) c.args.prompt.now.text.now c.args.prompt.now.asks in
-    let a = area c.args.row.now.strip c.args.row.now.has_hint in
+    let look = look_of given (g.H.Helper.hints c.args.prompt.now.helper.now) c.args.prompt.now.text.now c.args.prompt.now.asks c.args.prompt.now.wraps in
+    let a = area_of c.args.rows.now in
     let e = seen_event c.in-Ok.event in
     let written = moved look w g.W.Write.contents (going_on_events s.goes) c.args.editor.now (Shows a false) out c.args.tty.now.out c.read.new.self.out c.in-Ok.ensures.others.0 s.written in
     let old = g.W.Write.contents c.read.new.self.out in
     let new = g.W.Write.contents c.leave.new.out in
     ends_shown g.S.EventSource.drawn g.S.EventSource.asked look v w (knows c.args.tty.now.pass) (knows c.read.new.self.pass) c.args.editor.now c.take.new.editor e (answer_seen c.in-Ended.read) a out old new
-    (record { goes = s.goes; written = written }) c.in-Ok.ensures.call c.in-Ended.ensures (either_way c.leave.result old new (leaving a.has_hint) c.leave.ensures.ok c.leave.ensures.err)
+    (record { goes = s.goes; written = written }) c.in-Ok.ensures.call c.in-Ended.ensures (either_way c.leave.result old new (leaving_area a) c.leave.ensures.ok c.leave.ensures.err)
 
 pub returns-clause-written : goal.returns-clause-written
 returns-clause-written g c v w out may s =
     let given = given_by (g.H.Helper.completes c.args.prompt.now.helper.now) in
-    let look = look_of given (g.H.Helper.hints c.args.prompt.now.helper.now) c.args.prompt.now.text.now c.args.prompt.now.asks in
-    let a = area c.args.row.now.strip c.args.row.now.has_hint in
+    let look = look_of given (g.H.Helper.hints c.args.prompt.now.helper.now) c.args.prompt.now.text.now c.args.prompt.now.asks c.args.prompt.now.wraps in
+    let a = area_of c.args.rows.now in
     let e = seen_event c.in-Ok.event in
     let written = moved look w g.W.Write.contents (going_on_events s.goes) c.args.editor.now (Shows a false) out c.args.tty.now.out c.read.new.self.out c.in-Ok.ensures.others.0 s.written in
     refused_shown g.S.EventSource.drawn g.S.EventSource.asked look v w (knows c.args.tty.now.pass) (knows c.read.new.self.pass) c.args.editor.now c.take.new.editor e a (error_kind c.from.result) out
@@ -164,21 +163,21 @@ returns-clause-written g c v w out may s =
 pub returns-in-Ok-show_at_top-clause-written : goal.returns-in-Ok-show_at_top-clause-written
 returns-in-Ok-show_at_top-clause-written g c v w out may s =
     let given = given_by (g.H.Helper.completes c.args.prompt.now.helper.now) in
-    let look = look_of given (g.H.Helper.hints c.args.prompt.now.helper.now) c.args.prompt.now.text.now c.args.prompt.now.asks in
-    let a = area c.args.row.now.strip c.args.row.now.has_hint in
+    let look = look_of given (g.H.Helper.hints c.args.prompt.now.helper.now) c.args.prompt.now.text.now c.args.prompt.now.asks c.args.prompt.now.wraps in
+    let a = area_of c.args.rows.now in
     let e = seen_event c.in-Ok.event in
     let es = going_on_events s.goes ++ e ∷ [] in
     let written = moved look w g.W.Write.contents (going_on_events s.goes) c.args.editor.now (Shows a false) out c.args.tty.now.out c.read.new.self.out c.in-Ok.ensures.others.0 s.written in
     let on = went_on g.S.EventSource.drawn g.S.EventSource.asked look v w (knows c.args.tty.now.pass) (knows c.read.new.self.pass) (knows c.read.new.self.pass) c.args.editor.now c.take.new.editor e s.goes c.in-Ok.ensures.call turns.Clear tt c.in-Clear.ensures (inr refl) in
     let due = lets_clear look w (going_on_events s.goes) c.args.editor.now c.take.new.editor a e out (g.W.Write.contents c.read.new.self.out) written c.in-Clear.ensures in
-    goes_shown g.S.EventSource.drawn g.S.EventSource.asked look v w (knows c.read.new.self.pass) c.take.new.editor es (area c.show_at_top.new.row.strip c.show_at_top.new.row.has_hint) out
+    goes_shown g.S.EventSource.drawn g.S.EventSource.asked look v w (knows c.read.new.self.pass) c.take.new.editor es (area_of c.show_at_top.new.rows) out
     (g.W.Write.contents c.show_at_top.new.out) on (at_ok c.in-Ok-show_at_top.is (c.show_at_top.ensures.shows given w es out due))
 
 pub returns-in-Clear-clause-written : goal.returns-in-Clear-clause-written
 returns-in-Clear-clause-written g c v w out may s =
     let given = given_by (g.H.Helper.completes c.args.prompt.now.helper.now) in
-    let look = look_of given (g.H.Helper.hints c.args.prompt.now.helper.now) c.args.prompt.now.text.now c.args.prompt.now.asks in
-    let a = area c.args.row.now.strip c.args.row.now.has_hint in
+    let look = look_of given (g.H.Helper.hints c.args.prompt.now.helper.now) c.args.prompt.now.text.now c.args.prompt.now.asks c.args.prompt.now.wraps in
+    let a = area_of c.args.rows.now in
     let e = seen_event c.in-Ok.event in
     let es = going_on_events s.goes ++ e ∷ [] in
     let written = moved look w g.W.Write.contents (going_on_events s.goes) c.args.editor.now (Shows a false) out c.args.tty.now.out c.read.new.self.out c.in-Ok.ensures.others.0 s.written in
@@ -190,21 +189,21 @@ returns-in-Clear-clause-written g c v w out may s =
 pub returns-in-Ok-show_and_ring-clause-written : goal.returns-in-Ok-show_and_ring-clause-written
 returns-in-Ok-show_and_ring-clause-written g c v w out may s =
     let given = given_by (g.H.Helper.completes c.args.prompt.now.helper.now) in
-    let look = look_of given (g.H.Helper.hints c.args.prompt.now.helper.now) c.args.prompt.now.text.now c.args.prompt.now.asks in
-    let a = area c.args.row.now.strip c.args.row.now.has_hint in
+    let look = look_of given (g.H.Helper.hints c.args.prompt.now.helper.now) c.args.prompt.now.text.now c.args.prompt.now.asks c.args.prompt.now.wraps in
+    let a = area_of c.args.rows.now in
     let e = seen_event c.in-Ok.event in
     let es = going_on_events s.goes ++ e ∷ [] in
     let written = moved look w g.W.Write.contents (going_on_events s.goes) c.args.editor.now (Shows a false) out c.args.tty.now.out c.read.new.self.out c.in-Ok.ensures.others.0 s.written in
     let on = went_on g.S.EventSource.drawn g.S.EventSource.asked look v w (knows c.args.tty.now.pass) (knows c.read.new.self.pass) (knows c.read.new.self.pass) c.args.editor.now c.take.new.editor e s.goes c.in-Ok.ensures.call turns.Ring tt c.in-Ring.ensures (inr refl) in
     let due = misses look w (going_on_events s.goes) c.args.editor.now c.take.new.editor a e out (g.W.Write.contents c.read.new.self.out) written c.in-Ring.ensures in
-    goes_shown g.S.EventSource.drawn g.S.EventSource.asked look v w (knows c.read.new.self.pass) c.take.new.editor es (area c.show_and_ring.new.row.strip c.show_and_ring.new.row.has_hint) out
+    goes_shown g.S.EventSource.drawn g.S.EventSource.asked look v w (knows c.read.new.self.pass) c.take.new.editor es (area_of c.show_and_ring.new.rows) out
     (g.W.Write.contents c.show_and_ring.new.out) on (at_ok c.in-Ok-show_and_ring.is (c.show_and_ring.ensures.shows given w es out due))
 
 pub returns-in-Ring-clause-written : goal.returns-in-Ring-clause-written
 returns-in-Ring-clause-written g c v w out may s =
     let given = given_by (g.H.Helper.completes c.args.prompt.now.helper.now) in
-    let look = look_of given (g.H.Helper.hints c.args.prompt.now.helper.now) c.args.prompt.now.text.now c.args.prompt.now.asks in
-    let a = area c.args.row.now.strip c.args.row.now.has_hint in
+    let look = look_of given (g.H.Helper.hints c.args.prompt.now.helper.now) c.args.prompt.now.text.now c.args.prompt.now.asks c.args.prompt.now.wraps in
+    let a = area_of c.args.rows.now in
     let e = seen_event c.in-Ok.event in
     let es = going_on_events s.goes ++ e ∷ [] in
     let written = moved look w g.W.Write.contents (going_on_events s.goes) c.args.editor.now (Shows a false) out c.args.tty.now.out c.read.new.self.out c.in-Ok.ensures.others.0 s.written in

@@ -1,4 +1,4 @@
-use Rattle.std.proofs.Common.{ap, false, [], None, refl, subst, sym, ◌∙◌}
+use Rattle.std.proofs.Common.{ap, false, [], subst, sym, ◌∙◌}
 use Rattle.crossterm_read.specs.PassViews.{knows}
 use Rattle.prompt.specs.Asking.{stopped, unread}
 use Rattle.prompt.specs.Completing.{given_by}
@@ -6,8 +6,8 @@ use Rattle.prompt.proofs.Turning.{not_yet}
 use Rattle.std.specs.IoError.{error_kind}
 use Rattle.crossterm_read.specs.History.{Known}
 use Rattle.prompt.specs.Asking.{answer_seen}
-use Rattle.prompt.specs.Frames.{Area, area}
 use Rattle.prompt.specs.Written.{Due, LineEndsShown, StopsShown, look_of}
+use Rattle.prompt.proofs.Drawn.{new_area, new_is}
 use Rattle.prompt.proofs.Sending.{if_err_with, if_ok_with}
 use Rattle.prompt.proofs.Showing.{all_of, starts, stops_shown}
 use Rattle.prompt.proofs.Showing as showing
@@ -23,15 +23,15 @@ returns-in-Err-clause-err g c =
 
 pub returns-then-has_control-clause-cut : goal.returns-then-has_control-clause-cut
 returns-then-has_control-clause-cut g c =
-    let look = (look_of (given_by (g.H.Helper.completes c.args.self.now.helper.now)) (g.H.Helper.hints c.args.self.now.helper.now) c.args.self.now.text.now c.args.self.now.asks) in
+    let look = (look_of (given_by (g.H.Helper.completes c.args.self.now.helper.now)) (g.H.Helper.hints c.args.self.now.helper.now) c.args.self.now.text.now c.args.self.now.asks c.args.self.now.wraps) in
     let old = g.W.Write.contents c.args.tty.now.out in
-    let a : Area = area (record { width = 0; drawn = None; left = None; room = 0 }) false in
-    record { stops = stopped unread; written = all_of look c.args.editor.now [] c.args.editor.now (Due a false) old old (starts look c.args.editor.now a old refl) }
+    let a = new_area c.args.self.now.wraps in
+    record { stops = stopped unread; written = all_of look c.args.editor.now [] c.args.editor.now (Due a false) old old (starts look c.args.editor.now a old (new_is c.args.self.now.wraps)) }
 
 pub returns-in-Err-clause-cut : goal.returns-in-Err-clause-cut
 returns-in-Err-clause-cut g c =
     let given = given_by (g.H.Helper.completes c.args.self.now.helper.now) in
-    let look = (look_of (given_by (g.H.Helper.completes c.args.self.now.helper.now)) (g.H.Helper.hints c.args.self.now.helper.now) c.args.self.now.text.now c.args.self.now.asks) in
+    let look = (look_of (given_by (g.H.Helper.completes c.args.self.now.helper.now)) (g.H.Helper.hints c.args.self.now.helper.now) c.args.self.now.text.now c.args.self.now.asks c.args.self.now.wraps) in
     stops_shown g.S.EventSource.drawn g.S.EventSource.asked look (knows c.args.tty.now.pass) c.args.editor.now (error_kind c.in-Err.error) (knows c.begin.new.tty.pass) c.args.editor.now []
     (g.W.Write.contents c.args.tty.now.out) (g.W.Write.contents c.begin.new.tty.out)
     (showing.not_yet g.S.EventSource.drawn g.S.EventSource.asked look (knows c.args.tty.now.pass) c.args.editor.now (knows c.begin.new.tty.pass) (ap knows c.begin.ensures.pass)) (c.in-Err.ensures.stops given)
@@ -39,7 +39,7 @@ returns-in-Err-clause-cut g c =
 pub returns-in-Ok-clause-written : goal.returns-in-Ok-clause-written
 returns-in-Ok-clause-written g c =
     let given = given_by (g.H.Helper.completes c.args.self.now.helper.now) in
-    let look = (look_of (given_by (g.H.Helper.completes c.args.self.now.helper.now)) (g.H.Helper.hints c.args.self.now.helper.now) c.args.self.now.text.now c.args.self.now.asks) in
+    let look = (look_of (given_by (g.H.Helper.completes c.args.self.now.helper.now)) (g.H.Helper.hints c.args.self.now.helper.now) c.args.self.now.text.now c.args.self.now.asks c.args.self.now.wraps) in
     let out = g.W.Write.contents c.args.tty.now.out in
     if_ok_with c.go_on.result (λ read ends. subst (λ (v : Known g.row.S.Denot). LineEndsShown g.S.EventSource.drawn g.S.EventSource.asked look v c.args.editor.now (answer_seen read) (knows c.go_on.new.tty.pass) c.go_on.new.editor out
     (g.W.Write.contents c.go_on.new.tty.out)) (ap knows c.begin.ensures.pass) (ends out (λ is. sym c.in-Ok.ensures.asks ∙ is) (c.in-Ok.ensures.shows given))) c.go_on.ensures.written
@@ -47,7 +47,7 @@ returns-in-Ok-clause-written g c =
 pub returns-in-Ok-clause-cut : goal.returns-in-Ok-clause-cut
 returns-in-Ok-clause-cut g c =
     let given = given_by (g.H.Helper.completes c.args.self.now.helper.now) in
-    let look = (look_of (given_by (g.H.Helper.completes c.args.self.now.helper.now)) (g.H.Helper.hints c.args.self.now.helper.now) c.args.self.now.text.now c.args.self.now.asks) in
+    let look = (look_of (given_by (g.H.Helper.completes c.args.self.now.helper.now)) (g.H.Helper.hints c.args.self.now.helper.now) c.args.self.now.text.now c.args.self.now.asks c.args.self.now.wraps) in
     let out = g.W.Write.contents c.args.tty.now.out in
     if_err_with c.go_on.result (λ error stops. subst (λ (v : Known g.row.S.Denot). StopsShown g.S.EventSource.drawn g.S.EventSource.asked look v c.args.editor.now (error_kind error) (knows c.go_on.new.tty.pass) c.go_on.new.editor out
     (g.W.Write.contents c.go_on.new.tty.out)) (ap knows c.begin.ensures.pass) (stops out (λ is. sym c.in-Ok.ensures.asks ∙ is) (c.in-Ok.ensures.shows given))) c.go_on.ensures.cut

@@ -1,8 +1,8 @@
 use Rattle.std.proofs.Common.{◌<◌, OnErr, OnOk, subst}
-use Rattle.screen.specs.Strips.{StripView, without_cursor}
+use Rattle.screen.specs.Strips.{StripView}
 use Rattle.prompt.specs.Drawing.{IsNextDrawn}
-use Rattle.prompt.specs.Frames.{Draws, DrawsFront, area}
-use Rattle.prompt.proofs.Drawn.{as_drawn, ok_as}
+use Rattle.prompt.specs.RowFrames.{DrawsRow, DrawsRowFront, row_area}
+use Rattle.prompt.proofs.DrawnRow.{as_drawn, ok_as}
 use Rattle.prompt.proofs.drawing.Row.draw.Goals as goal
 
 pub returns-clause-drawn : goal.returns-clause-drawn
@@ -19,12 +19,12 @@ returns-clause-shows g c =
     let old = g.W.Write.contents c.args.out.now in
     let new = g.W.Write.contents c.draw_next.new.out in
     let row = c.draw_next.new.self in
-    subst (λ (x : StripView). OnOk c.draw_next.result (Draws c.args.prompt.now c.args.line.now c.args.hint.now (area x c.args.self.now.has_hint) (area row.strip row.has_hint) old new))
+    subst (λ (x : StripView). OnOk c.draw_next.result (DrawsRow c.args.prompt.now c.args.line.now c.args.hint.now (row_area x c.args.self.now.has_hint) (row_area row.strip row.has_hint) old new))
     c.forget_cursor.ensures c.draw_next.ensures.shows
 
 pub returns-clause-stops : goal.returns-clause-stops
 returns-clause-stops g c =
     let old = g.W.Write.contents c.args.out.now in
     let new = g.W.Write.contents c.draw_next.new.out in
-    subst (λ (x : StripView). OnErr c.draw_next.result (DrawsFront c.args.prompt.now c.args.line.now c.args.hint.now (area x c.args.self.now.has_hint) old new))
+    subst (λ (x : StripView). OnErr c.draw_next.result (DrawsRowFront c.args.prompt.now c.args.line.now c.args.hint.now (row_area x c.args.self.now.has_hint) old new))
     c.forget_cursor.ensures c.draw_next.ensures.stops
