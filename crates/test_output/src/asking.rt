@@ -3,6 +3,7 @@
 mod drawn;
 mod helped;
 mod resized;
+mod rows;
 
 use crate::noted::{Call, Noted, terminal_by};
 use crate::witness::Witness;
