@@ -123,20 +123,14 @@ impl<'a, H> Prompt<'a, H> {
     /// ```
     /// let prompt = Prompt::new("> ").without_questions();
     /// ```
-    pub fn without_questions(self) -> Prompt<'a, H>
+    pub fn without_questions(mut self) -> Prompt<'a, H>
         ensures text { result.text.now ≡ self.entry.text.now }
         ensures helper { result.helper.now ≡ self.entry.helper.now }
         ensures asks { result.asks ≡ false }
         ensures wraps { result.wraps ≡ self.entry.wraps }
     {
-        Prompt {
-            text: self.text,
-            helper: self.helper,
-            asks: false,
-            wraps: self.wraps,
-            size: Cell::new(None),
-            reflows: Cell::new(false),
-        }
+        self.asks = false;
+        self
     }
 
     /// The same prompt, which shows as much of the line as one row has room for: a longer line scrolls in it.
@@ -144,20 +138,14 @@ impl<'a, H> Prompt<'a, H> {
     /// ```
     /// let prompt = Prompt::new("Name: ").in_one_row();
     /// ```
-    pub fn in_one_row(self) -> Prompt<'a, H>
+    pub fn in_one_row(mut self) -> Prompt<'a, H>
         ensures text { result.text.now ≡ self.entry.text.now }
         ensures helper { result.helper.now ≡ self.entry.helper.now }
         ensures asks { result.asks ≡ self.entry.asks }
         ensures wraps { result.wraps ≡ false }
     {
-        Prompt {
-            text: self.text,
-            helper: self.helper,
-            asks: self.asks,
-            wraps: false,
-            size: Cell::new(None),
-            reflows: Cell::new(false),
-        }
+        self.wraps = false;
+        self
     }
 }
 
