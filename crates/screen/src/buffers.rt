@@ -125,6 +125,8 @@ fn take_padded<A: Allocator>(
 ) -> Result<(), AllocError>
     ensures ok { OnOk result (cells.new.items ≡ padded count others.now) }
     ensures err { OnErr result (cells.new.items ≡ cells.old.items) }
+    ensures succeeds { count ≤ vec_capacity cells.old → IsOk result }
+    ensures holds { OnOk result (count ≤ vec_capacity cells.new) }
     ensures room { vec_capacity cells.old ≤ vec_capacity cells.new }
 {
     cells.resize(count, Cell::blank())?;
@@ -298,6 +300,8 @@ impl<A: Allocator> Buffer<A> {
           room = self.new.room;
         }) }
         ensures err { OnErr result (self.new ≡ record self.old { room = self.new.room }) }
+        ensures fits { columns * rows ≤ self.old.room → IsOk result }
+        ensures holds { OnOk result (columns * rows ≤ self.new.room) }
         ensures room { self.old.room ≤ self.new.room }
     {
         take_padded(&mut self.cells, count_of(columns, rows), cells)?;

@@ -1,5 +1,5 @@
 //! Paragraphs: texts that are wrapped into rows.
-ghost use Rattle.std.specs.Prelude.{◌≡◌, ◌/◌, ◌%◌, ◌++◌, ◌<◌, ◌≤◌, List, OnErr, OnOk, ℕ, [], chars, length, replicate, vec_capacity};
+ghost use Rattle.std.specs.Prelude.{◌≡◌, ◌/◌, ◌%◌, ◌++◌, ◌<◌, ◌≤◌, ◌*◌, List, IsOk, OnErr, OnOk, ℕ, [], chars, length, replicate, vec_capacity};
 ghost use Rattle.screen.specs.Cells.{AreLaidOut, Cell as CellValue, FitsCell, blank, shown_text};
 ghost use Rattle.screen.specs.Overwriting.{cells_with};
 ghost use Rattle.screen.specs.Paragraphs.{columns_left, part_cells, placed_part, rows_picture, wrapped};
@@ -263,6 +263,8 @@ impl<A: Allocator> Paragraph<A> {
     ) -> Result<(), AllocError>
         ensures ok { OnOk result (buffer.new ≡ rows_picture self.now.width height first self.now.cells buffer.new.room) }
         ensures err { OnErr result (buffer.new ≡ record buffer.old { room = buffer.new.room }) }
+        ensures fits { self.now.width * height ≤ buffer.old.room → IsOk result }
+        ensures holds { OnOk result (self.now.width * height ≤ buffer.new.room) }
         ensures room { buffer.old.room ≤ buffer.new.room }
     {
         let at = first
