@@ -51,7 +51,7 @@ letter_columns c h = ap (λ b. cond b 2 1) (low_takes_no_two c (omega (arith, h.
 -- ---- letters without marks
 
 -- A character by itself.
-abbrev single : ℕ → List ℕ
+abbrev pub single : ℕ → List ℕ
 single c = c ∷ []
 
 letter_edited : (how : Editing) (c : ℕ) → IsPrintableAscii c → edit how (single c) ≡ Some (single c)
@@ -59,7 +59,7 @@ letter_edited Whole c h = ap (λ o. unless (elim o [ Some fault ↦ Some fault |
 letter_edited (Replacing r) c h = ap (λ o. replaced_by r (elim o [ Some fault ↦ Some fault | None ↦ None ]) (single c)) (letter_fault c h)
 letter_edited WithoutMarks c h = ap (λ o. unless o (single c)) (letter_fault c h)
 
-letters_held : (cs : List ℕ) → AllByRecursion IsPrintableAscii cs → AllByRecursion FitsCell (map single cs)
+pub letters_held : (cs : List ℕ) → AllByRecursion IsPrintableAscii cs → AllByRecursion FitsCell (map single cs)
 letters_held [] all = tt
 letters_held (c ∷ cs) all = ((letter_printed c all.0, tt), letters_held cs all.1)
 
@@ -67,7 +67,7 @@ letters_columns : (cs : List ℕ) → AllByRecursion IsPrintableAscii cs → tex
 letters_columns [] all = refl
 letters_columns (c ∷ cs) all = ap (λ n. n + text_columns (map single cs)) (letter_columns c all.0) ∙ ap (λ n. 1 + n) (letters_columns cs all.1) ∙ omega arith
 
-letters_cells : (s : ContentStyle) (cs : List ℕ) → AllByRecursion IsPrintableAscii cs → cells_of s (map single cs) ≡ map (bare_cell s) cs
+pub letters_cells : (s : ContentStyle) (cs : List ℕ) → AllByRecursion IsPrintableAscii cs → cells_of s (map single cs) ≡ map (bare_cell s) cs
 letters_cells s [] all = refl
 letters_cells s (c ∷ cs) all =
     ap (λ b. cond b (bare_cell s c ∷ record { symbol = 0; marks = []; style = s } ∷ []) (bare_cell s c ∷ []) ++ cells_of s (map single cs)) (low_takes_no_two c (omega (arith, all.0.1)))
@@ -87,7 +87,7 @@ letters_within how (c ∷ cs) back room all le =
 
 -- ---- letters that a text begins with
 
-letters_all : (n : ℕ) (text : List ℕ) → n ≤ length text → ((k : ℕ) → k < n → IsPrintableAscii (get_or text k 0)) → AllByRecursion IsPrintableAscii (take n text)
+pub letters_all : (n : ℕ) (text : List ℕ) → n ≤ length text → ((k : ℕ) → k < n → IsPrintableAscii (get_or text k 0)) → AllByRecursion IsPrintableAscii (take n text)
 letters_all zero text le h = tt
 letters_all (suc n) [] le h = absurd (omega (arith, le))
 letters_all (suc n) (c ∷ text) le h = (h 0 (omega arith), letters_all n text (omega (arith, le)) (λ k lt. h (suc k) (omega (arith, lt))))
@@ -115,7 +115,7 @@ alone_by c (d ∷ text) u low =
     parts_first c (chars (d ∷ text)) ∙ ap (λ m. (c ∷ m) ∷ text_parts (behind_marks c (chars (d ∷ text)))) marks ∙ ap (λ t. single c ∷ text_parts t) behind
 
 -- Each of them is a part of its own.
-letters_parts : (n : ℕ) (text : List ℕ) → IsUtf8 text → BeginsBare text n → text_parts (chars text) ≡ map single (take n text) ++ text_parts (chars (drop n text))
+pub letters_parts : (n : ℕ) (text : List ℕ) → IsUtf8 text → BeginsBare text n → text_parts (chars text) ≡ map single (take n text) ++ text_parts (chars (drop n text))
 letters_parts zero text u b = refl
 letters_parts (suc n) [] u b = absurd (omega (arith, b.inside))
 letters_parts (suc n) (c ∷ text) u b =

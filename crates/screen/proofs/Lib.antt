@@ -11,6 +11,7 @@ pub mod Filling
 pub mod Prints
 pub mod Narrow
 pub mod Ascii
+pub mod WrappedLetters
 pub mod Alignments
 pub mod Styling
 pub mod Edges

@@ -80,7 +80,7 @@ pub text_length : (s : ContentStyle) (text : List (List ℕ)) → length (cells_
 text_length s [] = refl
 text_length s (c ∷ text) = length-append (cells_with s c) (cells_of s text) ∙ ap (λ n. n + length (cells_of s text)) (with_length s c) ∙ ap (λ n. part_columns c + n) (text_length s text)
 
-text_placed : (s : ContentStyle) (text : List (List ℕ)) → AllByRecursion FitsCell text → All IsPlaced (cells_of s text)
+pub text_placed : (s : ContentStyle) (text : List (List ℕ)) → AllByRecursion FitsCell text → All IsPlaced (cells_of s text)
 text_placed s [] all = λ k d lt. absurd (omega (arith, lt))
 text_placed s (c ∷ text) all = All-append IsPlaced (cells_with s c) (cells_of s text) (with_placed s c all.0) (text_placed s text all.1)
 

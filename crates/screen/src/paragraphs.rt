@@ -1,10 +1,11 @@
 //! Paragraphs: texts that are wrapped into rows.
-ghost use Rattle.std.specs.Prelude.{◌≡◌, ◌/◌, ◌%◌, ◌++◌, ◌<◌, ◌≤◌, ◌*◌, List, IsOk, OnErr, OnOk, ℕ, [], chars, length, replicate, vec_capacity};
+ghost use Rattle.std.specs.Prelude.{◌≡◌, ◌/◌, ◌%◌, ◌++◌, ◌<◌, ◌≤◌, ◌*◌, IfOk, IsOk, List, OnErr, OnOk, ℕ, [], chars, drop, length, map, replicate, take, vec_capacity};
 ghost use Rattle.screen.specs.Cells.{AreLaidOut, Cell as CellValue, FitsCell, blank, shown_text};
 ghost use Rattle.screen.specs.Overwriting.{cells_with};
 ghost use Rattle.screen.specs.Paragraphs.{columns_left, part_cells, placed_part, rows_picture, wrapped};
 ghost use Rattle.screen.specs.Parts.{text_parts};
 ghost use Rattle.screen.specs.Texts.{fitting};
+ghost use Rattle.screen.specs.inside.Ascii.{BeginsBare, bare_cell};
 ghost use Rattle.screen.specs.inside.FirstParts.{IsPart};
 
 use crate::buffers::Buffer;
@@ -13,7 +14,7 @@ use crate::marks::Marks;
 use crate::overwriting::{columns, covered};
 use crate::packed::PackedStyle;
 use crate::parts::{Part, first_part};
-use crate::texts::part_fault;
+use crate::texts::{bare_ascii, part_fault};
 use crossterm_style::ContentStyle;
 use std::alloc::{AllocError, Allocator, Global};
 use std::marker::Model;
@@ -140,6 +141,40 @@ fn push_part<A: Allocator>(
     push_in_row(cells, width, &fitting_cell(part, style))
 }
 
+/// Adds the cells of characters of one byte. If memory is refused, the cells stay.
+fn push_letters<A: Allocator>(
+    cells: &mut Vec<Cell, A>,
+    letters: &[u8],
+    style: PackedStyle,
+) -> Result<(), AllocError>
+    ensures ok { OnOk result (cells.new.items ≡ cells.old.items ++ map (bare_cell style) letters.now) }
+    ensures err { OnErr result (cells.new.items ≡ cells.old.items) }
+    ensures room { vec_capacity cells.old ≤ vec_capacity cells.new }
+{
+    cells.reserve(letters.len())?;
+    for letter in letters {
+        cells.push_reserved(Cell::of(*letter as char, Marks::none(), style));
+    }
+    Ok(())
+}
+
+/// Adds the cells of printable characters of ASCII that a text begins with, and returns the text behind them. If memory is refused, the cells stay.
+fn push_ascii<'a, A: Allocator>(
+    cells: &mut Vec<Cell, A>,
+    text: &'a str,
+    style: PackedStyle,
+) -> Result<&'a str, AllocError>
+    ensures ok { IfOk result (λ rest. (n : ℕ) × BeginsBare text.now n × (rest.now ≡ drop n text.now)
+        × (cells.new.items ≡ cells.old.items ++ map (bare_cell style) (take n text.now))) }
+    ensures err { OnErr result (cells.new.items ≡ cells.old.items) }
+    ensures room { vec_capacity cells.old ≤ vec_capacity cells.new }
+{
+    // Each row has a column left, so such a character takes the next place.
+    let count = bare_ascii(text, text.len());
+    push_letters(cells, &text.as_bytes()[0..count], style)?;
+    Ok(&text[count..text.len()])
+}
+
 /// Adds the cells of a text. If memory is refused, those of its first parts may have been added.
 fn push_text<A: Allocator>(
     cells: &mut Vec<Cell, A>,
@@ -155,7 +190,7 @@ fn push_text<A: Allocator>(
 {
     let style = PackedStyle::new(style);
     let mut rest = text;
-    while let Some((part, back)) = first_part(rest) {
+    while let Some((part, back)) = first_part(push_ascii(cells, rest, style)?) {
         push_part(cells, width, &part, style)?;
         rest = back;
     }

@@ -162,7 +162,7 @@ fn printable_front(bytes: &[u8], most: usize) -> usize
 }
 
 /// How many printable characters of ASCII a text begins with, so many at most, without the last one if it may have a mark.
-fn bare_ascii(text: &str, most: usize) -> usize
+pub(crate) fn bare_ascii(text: &str, most: usize) -> usize
     ensures bare { BeginsBare text.now result }
     ensures few { result ≤ most }
 {
