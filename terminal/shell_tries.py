@@ -9,7 +9,7 @@ import tempfile
 import time
 
 from ends import script_of
-from pseudo import WITH, Terminal, Wrong, equal, program
+from pseudo import WITH, Terminal, Wrong, equal, program, tmux
 
 
 @contextlib.contextmanager
@@ -250,7 +250,78 @@ def shell_goes_on_without_a_lock():
         ends(terminal)
 
 
+def shell_lists_words():
+    """A second Tab lists what a word may go on with below the line, and the list goes with the next key, or as the line ends."""
+    with room() as path, shell(path) as terminal:
+        equal('a green prompt', b'\x1b[38;5;10m$ \x1b[' in terminal.out, True)
+        terminal.send(b'h\t\t')
+        terminal.until(b'help')
+        terminal.until(b'history')
+        terminal.send(b'i')
+        terminal.until(b'\x1b[1B')
+        terminal.send(b'\t\r')
+        terminal.until(b'\r\nhistory\r\n')
+        terminal.send(b'echo qu\t\r')
+        terminal.until(b'\r\nquit\r\n')
+        terminal.send(b'h\t\t\r')
+        terminal.until(b'history')
+        terminal.until(b'\r\n\x1b[Jh is no command')
+        ends(terminal)
+
+
+def shell_asks_for_a_password():
+    """A password is shown as stars, isn't in the history, and neither Up nor Ctrl-Y brings it back."""
+    with room() as path, shell(path) as terminal:
+        terminal.send(b'password\r')
+        terminal.until(b'Password: ')
+        shown = len(terminal.out)
+        terminal.send(b'se\x12x\x07cret\x15k\xc3\xa9y\r')
+        terminal.until(b'It has 3 characters.\r\n')
+        equal('only stars', any(letter in terminal.out[shown:terminal.out.index(b'It has')] for letter in (b's', b'e', b'c', b'k')), False)
+        terminal.until(b'$ ')
+        terminal.send(b'\x19\x1b[A\r')
+        terminal.until(b'Password: ')
+        terminal.send(b'\x03')
+        terminal.until(b'$ ')
+        ends(terminal)
+        equal('history', written(path), b'password\npassword\n')
+
+
+def shown_in(run):
+    """The rows of tmux's screen that aren't empty, and the cursor's place."""
+    rows = run('capture-pane', '-p', '-t', 't').decode().split('\n')
+    place = run('display-message', '-p', '-t', 't', '#{cursor_x} #{cursor_y}').decode().split()
+    return [row for row in rows if row], int(place[0]), int(place[1])
+
+
+def shell_in_tmux():
+    """What tmux shows of candidates and of a password, and that nothing of either stays."""
+    with room() as path, tmux(f'shell {path}') as run:
+        def shows(*want):
+            end = time.time() + 5
+            while (is_ := shown_in(run)) != want and time.time() < end:
+                time.sleep(0.05)
+            equal(f'rows of {want!r}', is_, want)
+
+        run('send-keys', '-t', 't', 'h', 'Tab', 'Tab')
+        shows(['$ h', 'help     history'], 3, 0)
+        # In a window of another width the list goes, since a resize is an event.
+        run('resize-window', '-t', 't', '-x', '60')
+        shows(['$ help'], 3, 0)
+        run('send-keys', '-t', 't', 'Tab', 'Tab', 'e')
+        shows(['$ help'], 4, 0)
+        run('send-keys', '-t', 't', 'C-u')
+        run('send-keys', '-l', '-t', 't', 'password')
+        run('send-keys', '-t', 't', 'Enter')
+        run('send-keys', '-l', '-t', 't', 'secret')
+        shows(['$ password', 'Password: ******'], 16, 1)
+        run('send-keys', '-t', 't', 'Left', 'Enter')
+        shows(['$ password', 'Password: ******', 'It has 6 characters.', '$'], 2, 3)
+        run('send-keys', '-t', 't', 'C-d')
+
+
 TRIES = [
-    shell_completes_and_remembers, shell_ends_by_signals, shell_sets_a_file_aside, shell_goes_on_without_a_file,
+    shell_lists_words, shell_asks_for_a_password, shell_completes_and_remembers, shell_ends_by_signals, shell_sets_a_file_aside, shell_goes_on_without_a_file,
     shell_writes_the_rest_later, shell_appends, shells_append_at_once, shell_is_cut_while_another_appends, shell_goes_on_without_a_lock,
 ]
+IN_TMUX = [shell_in_tmux]

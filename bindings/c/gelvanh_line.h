@@ -50,15 +50,30 @@ uint32_t gelvanh_line_new(struct gelvanh_line *line, const struct gelvanh_line_l
 /* Ends it, and frees its memory. */
 void gelvanh_line_free(struct gelvanh_line line);
 
-/* Takes a prompt and how many columns the window has; 0, as a serial line says, counts as 80. Nothing is known of the cursor's row then, so that
- * the next gelvanh_line_show draws all of it: so call it for each line, and after a resize. The line's text stays.
+/* Takes a prompt and how many columns and rows the window has; 0 of them, as a serial line says, count as 80 and 24. The line is shown from the
+ * cursor's row on, in as many rows as it takes. Nothing is known of them then, so that the next gelvanh_line_show draws all of it: so call it for
+ * each line. The line's text stays.
  *
  * GELVANH_LINE_GOES_ON, GELVANH_LINE_NO_MEMORY, or GELVANH_LINE_UNKNOWN if the prompt isn't UTF-8 or has a control character. */
-uint32_t gelvanh_line_begin(struct gelvanh_line *line, const uint8_t *prompt, size_t length, uint16_t columns);
+uint32_t gelvanh_line_begin(struct gelvanh_line *line, const uint8_t *prompt, size_t length, uint16_t columns, uint16_t rows);
 
-/* Takes an event. What is bound to no key, the mouse, resizes and replies change nothing, and GELVANH_LINE_GOES_ON is returned.
+/* Takes another size of the window, as after SIGWINCH: the output erases the rows from the first one on, and the next gelvanh_line_show draws all of
+ * them there. A terminal that has wrapped them anew by itself may leave some of them above.
  *
- * Any answer. After the three by which a line ends, the output leaves its row: the cursor is at the start of the next one, and the next
+ * GELVANH_LINE_GOES_ON, or GELVANH_LINE_NO_MEMORY. */
+uint32_t gelvanh_line_resize(struct gelvanh_line *line, uint16_t columns, uint16_t rows);
+
+/* Shows the line, nothing of it, or a star for each of its characters, from the next gelvanh_line_show on. A hidden line has no hint, lists no
+ * names, and shows no search. A password is typed in a line of its own, whose limits keep no lines: gelvanh_line_free forgets it.
+ *
+ * GELVANH_LINE_GOES_ON, or GELVANH_LINE_UNKNOWN for another number. */
+enum gelvanh_line_hidden { GELVANH_LINE_SHOWN, GELVANH_LINE_NOTHING, GELVANH_LINE_STARS };
+uint32_t gelvanh_line_hide(struct gelvanh_line *line, uint32_t how);
+
+/* Takes an event. What is bound to no key, the mouse, resizes and replies change nothing but that no names are listed any more, and
+ * GELVANH_LINE_GOES_ON is returned.
+ *
+ * Any answer. After the three by which a line ends, the output leaves its rows: the cursor is at the start of the next one, and the next
  * gelvanh_line_show draws anew. What wasn't shown of the line by then never is, so show it before a key that may end it. The end of a paste is
  * GELVANH_LINE_UNKNOWN: its text goes to gelvanh_line_paste. */
 uint32_t gelvanh_line_event(struct gelvanh_line *line, const struct gelvanh_event *event);
@@ -69,15 +84,26 @@ uint32_t gelvanh_line_event(struct gelvanh_line *line, const struct gelvanh_even
  * GELVANH_LINE_GOES_ON, GELVANH_LINE_TOO_LONG, GELVANH_LINE_NO_MEMORY, or GELVANH_LINE_UNKNOWN if it isn't UTF-8. */
 uint32_t gelvanh_line_paste(struct gelvanh_line *line, const uint8_t *text, size_t length);
 
+/* Completes the word before the cursor, as at Tab, by names in UTF-8 with a line feed between them: what those that begin with it have in common is
+ * put behind it. If this is called a second time in a row, these names are listed below the line, up to the next event or text.
+ *
+ * GELVANH_LINE_GOES_ON, GELVANH_LINE_TOO_LONG, GELVANH_LINE_NO_MEMORY, or GELVANH_LINE_UNKNOWN if it isn't UTF-8. */
+uint32_t gelvanh_line_complete(struct gelvanh_line *line, const uint8_t *names, size_t length);
+
+/* Lists such names in columns below the line, up to the next event or text, for who completes lines by another rule.
+ *
+ * GELVANH_LINE_GOES_ON, GELVANH_LINE_NO_MEMORY, or GELVANH_LINE_UNKNOWN if they aren't UTF-8. */
+uint32_t gelvanh_line_list(struct gelvanh_line *line, const uint8_t *names, size_t length);
+
 /* Takes a text that is shown dimmed behind the line, while the cursor is at its end and the text has room. It stays until the next one; an
  * empty one shows none. It is never part of the line.
  *
  * GELVANH_LINE_GOES_ON, GELVANH_LINE_NO_MEMORY, or GELVANH_LINE_UNKNOWN if it isn't UTF-8. */
 uint32_t gelvanh_line_hint(struct gelvanh_line *line, const uint8_t *hint, size_t length);
 
-/* Lets what changed in the row join the output; after Ctrl-L the window is cleared, and the row is at its top. While an incremental search goes
+/* Lets what changed in the rows join the output; after Ctrl-L the window is cleared, and the line is at its top. While an incremental search goes
  * on, what it looks for is in the prompt's place.
- * GELVANH_LINE_GOES_ON, or GELVANH_LINE_NO_MEMORY: then the next call draws all of the row. */
+ * GELVANH_LINE_GOES_ON, or GELVANH_LINE_NO_MEMORY: then the next call draws all of the rows. */
 uint32_t gelvanh_line_show(struct gelvanh_line *line);
 
 /* Moves output into a slice, and returns how many bytes; 0 if none are left. It may be less than `room` and than what is left: call it again. */
@@ -110,6 +136,7 @@ GELVANH_CHECK(limits_kills, offsetof(struct gelvanh_line_limits, kills) == 24);
 GELVANH_CHECK(limits_ignore_dups, offsetof(struct gelvanh_line_limits, ignore_dups) == 32);
 GELVANH_CHECK(limits_ignore_space, offsetof(struct gelvanh_line_limits, ignore_space) == 33);
 GELVANH_CHECK(answers, GELVANH_LINE_RINGS == 7);
+GELVANH_CHECK(hidden, GELVANH_LINE_STARS == 2);
 #undef GELVANH_CHECK
 
 #ifdef __cplusplus

@@ -29,11 +29,13 @@ static int put(const char *text) {
     return done;
 }
 
-/* Begins the line's row, in a window as it is now. */
-static int begin(void) {
+/* Begins a line in a window as it is now, or goes on with it in one of another size. */
+static int begin(int is_resized) {
     struct winsize size = {0, 0, 0, 0};
     ioctl(1, TIOCGWINSZ, &size);
-    return gelvanh_line_begin(&line, (const uint8_t *)"> ", 2, size.ws_col) == GELVANH_LINE_GOES_ON;
+    if (is_resized)
+        return gelvanh_line_resize(&line, size.ws_col, size.ws_row) == GELVANH_LINE_GOES_ON;
+    return gelvanh_line_begin(&line, (const uint8_t *)"> ", 2, size.ws_col, size.ws_row) == GELVANH_LINE_GOES_ON;
 }
 
 static int show(void) {
@@ -54,7 +56,7 @@ static int next(struct gelvanh_event *event) {
             if (!show())
                 return 0;
             while (ppoll(&fd, 1, NULL, &none) < 0) /* a resize, which waits for this */
-                if (!put("\r\033[J") || !begin() || !show())
+                if (!begin(1) || !show())
                     return 0;
             from = 0;
             to = read(0, bytes, sizeof bytes);
@@ -75,7 +77,7 @@ static int may_end(const struct gelvanh_event *event) {
 static uint32_t read_line(void) {
     struct gelvanh_event event;
     uint32_t answer;
-    if (!begin())
+    if (!begin(0))
         return GELVANH_LINE_CLOSED;
     do {
         if (!next(&event) || (may_end(&event) && !show()))

@@ -3,23 +3,20 @@
 //! cargo run --manifest-path bindings/Cargo.toml --example keys
 use crossterm::event::{read, Event, KeyCode};
 use crossterm::line::{Editor, Limits, LineError, Outcome};
-use crossterm::terminal::{self, Clear, ClearType};
-use crossterm::{cursor::MoveToColumn, queue};
+use crossterm::terminal;
 use std::io::{self, stdout, Write};
 
 const PROMPT: &str = "name: ";
 
 /// Takes events until the line ends, or is given up.
 fn ask(editor: &mut Editor, out: &mut impl Write) -> io::Result<Option<Outcome>> {
-    editor.begin(PROMPT, terminal::size()?.0)?;
+    let (columns, rows) = terminal::size()?;
+    editor.begin(PROMPT, columns, rows)?;
     loop {
         editor.show(out)?;
         let event = read()?;
         match event {
-            Event::Resize(columns, _) => {
-                queue!(out, MoveToColumn(0), Clear(ClearType::FromCursorDown))?;
-                editor.begin(PROMPT, columns)?;
-            }
+            Event::Resize(columns, rows) => editor.resize(columns, rows)?,
             Event::Key(key) if key.code == KeyCode::Esc => return Ok(None),
             _ => match editor.turn(&event) {
                 Ok(Outcome::Going) => {}

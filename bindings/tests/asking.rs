@@ -1,6 +1,6 @@
 //! `readline` on a terminal that is played: its lines, what it writes, and the mode that it leaves.
 
-use gelvanh::line::{Editor, Helper, Limits, LineError, Outcome, Terminal, Words};
+use gelvanh::line::{read_hidden, Editor, Helper, Limits, LineError, Mask, Outcome, Terminal, Words};
 use gelvanh::{Event, KeyCode, KeyEvent, KeyModifiers};
 use std::collections::VecDeque;
 use std::io::{self, ErrorKind, Write};
@@ -63,8 +63,8 @@ impl Terminal for Played {
         Ok(was_raw != is_on)
     }
 
-    fn columns(&mut self) -> io::Result<u16> {
-        Ok(40)
+    fn size(&mut self) -> io::Result<(u16, u16)> {
+        Ok((40, 10))
     }
 
     fn has_event(&mut self) -> io::Result<bool> {
@@ -181,14 +181,14 @@ fn what_comes_at_once_is_shown_at_once() {
     let mut terminal = Played::new(acts);
     assert_eq!(editor().readline("> ", &mut terminal).expect("a line"), Outcome::Line("bursty".into()));
     // The prompt, then all but the last two keys in one frame, and the rest.
-    assert_eq!((terminal.count("burst"), terminal.count("^[[?2026h")), (1, 3), "{}", terminal.shown());
+    assert_eq!((terminal.count("burst"), terminal.count("^[[?25h")), (1, 3), "{}", terminal.shown());
 
     // Enter is in the burst, and the line is shown nevertheless.
     let mut acts = burst("quick");
     acts.push(Act::With(key(KeyCode::Enter)));
     let mut terminal = Played::new(acts);
     assert_eq!(editor().readline("> ", &mut terminal).expect("a line"), Outcome::Line("quick".into()));
-    assert_eq!((terminal.count("quick"), terminal.count("^[[?2026h")), (1, 2), "{}", terminal.shown());
+    assert_eq!((terminal.count("quick"), terminal.count("^[[?25h")), (1, 2), "{}", terminal.shown());
 }
 
 #[test]
@@ -224,6 +224,24 @@ fn bells_hints_and_windows() {
 }
 
 #[test]
+fn a_second_tab_lists_and_a_password_is_hidden() {
+    let mut acts = typed("h");
+    acts.extend([KeyCode::Tab, KeyCode::Tab, KeyCode::Char('e'), KeyCode::Enter].map(|code| Act::Alone(key(code))));
+    let mut terminal = Played::new(acts);
+    let mut editor = editor_with(Words::new(["help", "history", "quit"]));
+    assert_eq!(editor.readline("> ", &mut terminal).expect("a line"), Outcome::Line("he".into()));
+    let shown = terminal.shown();
+    let listed = shown.find("history").expect("a list");
+    assert!(shown[..listed].contains("help") && !shown.contains("quit") && terminal.count("history") == 1, "{shown}");
+
+    for (mask, stars) in [(Mask::Stars, 6), (Mask::Nothing, 0)] {
+        let mut terminal = Played::new(typed("secret\n"));
+        assert_eq!(read_hidden("PIN: ", mask, &mut terminal).expect("a line"), Outcome::Line("secret".into()));
+        assert!(terminal.count("*") == stars && terminal.count("s") == 0 && terminal.count("PIN: ") == 1, "{}", terminal.shown());
+    }
+}
+
+#[test]
 fn what_is_refused_changes_nothing() {
     let mut terminal = Played::new(typed("a\n"));
     let mut editor = editor();
@@ -234,7 +252,7 @@ fn what_is_refused_changes_nothing() {
     assert_eq!(editor.paste("01234567890"), Err(LineError::TooLong));
     let unnamed = KeyEvent::new(KeyCode::Char('a'), KeyModifiers::from_bits_retain(64));
     assert_eq!(editor.turn(&Event::Key(unnamed)), Ok(Outcome::Going));
-    assert_eq!(editor.begin("\x1b", 80), Err(LineError::Prompt));
+    assert_eq!(editor.begin("\x1b", 80, 24), Err(LineError::Prompt));
     assert_eq!((editor.text(), editor.before().len()), ("0123456789".into(), 10));
 
     let rows = [

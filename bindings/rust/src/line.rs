@@ -6,7 +6,7 @@
 //!
 //! let mut editor = Editor::new(Limits::default())?;
 //! let mut out = Vec::new();
-//! editor.begin("> ", 80)?;
+//! editor.begin("> ", 80, 24)?;
 //! for key in [KeyCode::Char('b'), KeyCode::Left, KeyCode::Char('a')] {
 //!     assert_eq!(editor.turn(&Event::Key(key.into()))?, Outcome::Going);
 //!     editor.show(&mut out)?;
@@ -49,7 +49,7 @@ use std::fmt::{self, Display};
 use std::io::{self, Write};
 
 pub use crate::raw_line::Limits;
-pub use asking::Terminal;
+pub use asking::{read_hidden, Terminal};
 pub use helper::{Helper, Words};
 
 /// What comes of an event.
@@ -116,12 +116,23 @@ fn is_tab(event: &Event) -> bool {
     event.as_key_event().map_or(false, |key| key.code == KeyCode::Tab && key.modifiers == KeyModifiers::NONE && !key.is_release())
 }
 
+/// What is shown in the place of a line that nobody is to read, as a password.
+#[derive(Clone, Copy, Debug, PartialEq, Eq)]
+pub enum Mask {
+    /// Nothing, so that nobody sees how long the line is.
+    Nothing,
+    /// A star in the place of each character.
+    Stars,
+}
+
 /// An editor of one line, with the texts that were killed, the changes that can be undone, and the history of accepted lines.
 pub struct Editor<H = ()> {
     line: Handle,
     helper: H,
     /// Whether the line was shown since it changed.
     is_shown: bool,
+    /// Whether the last event was Tab.
+    is_tabbed: bool,
 }
 
 impl Editor {
@@ -140,7 +151,7 @@ impl Editor {
     /// ```
     pub fn new(limits: Limits) -> Result<Editor, LineError> {
         let line = Handle::new(&limits).ok_or(LineError::NoMemory)?;
-        Ok(Editor { line, helper: (), is_shown: false })
+        Ok(Editor { line, helper: (), is_shown: false, is_tabbed: false })
     }
 }
 
@@ -158,7 +169,7 @@ impl<H> Editor<H> {
     /// # Ok::<(), gelvanh::line::LineError>(())
     /// ```
     pub fn with_helper<G: Helper>(self, helper: G) -> Editor<G> {
-        Editor { line: self.line, helper, is_shown: false }
+        Editor { line: self.line, helper, is_shown: false, is_tabbed: false }
     }
 
     /// The line's text.
@@ -207,15 +218,51 @@ impl<H> Editor<H> {
         done(self.line.load_history(text))
     }
 
-    /// Begins a row with a prompt, in a window of so many columns; 0 counts as 80. Nothing is known of the row then, and the next `show` draws
-    /// all of it. The line's text stays.
+    /// Begins a line behind a prompt, in a window of so many columns and rows; 0 count as 80 and 24. It is shown from the cursor's row on, in as many
+    /// rows as it takes. Nothing is known of them then, and the next `show` draws all of it. The line's text stays.
     ///
     /// # Errors
     ///
     /// `NoMemory`, or `Prompt` if the prompt has a control character.
-    pub fn begin(&mut self, prompt: &str, columns: u16) -> Result<(), LineError> {
+    pub fn begin(&mut self, prompt: &str, columns: u16, rows: u16) -> Result<(), LineError> {
         self.is_shown = false;
-        done(self.line.begin(prompt, columns))
+        done(self.line.begin(prompt, columns, rows))?;
+        self.is_tabbed = false;
+        Ok(())
+    }
+
+    /// Takes another size of the window: the next `show` erases the line's rows, and draws them anew there.
+    ///
+    /// # Errors
+    ///
+    /// `NoMemory`.
+    pub fn resize(&mut self, columns: u16, rows: u16) -> Result<(), LineError> {
+        self.is_shown = false;
+        done(self.line.resize(columns, rows))
+    }
+
+    /// Shows this in the line's place from the next `show` on, or the line with `None`. A hidden line has no hint, lists no candidates and shows
+    /// no search. `read_hidden` also forgets the line.
+    ///
+    /// ```
+    /// use gelvanh::line::{Editor, Limits, Mask};
+    ///
+    /// let mut editor = Editor::new(Limits::default())?;
+    /// let mut out = Vec::new();
+    /// editor.begin("PIN: ", 80, 24)?;
+    /// editor.hide(Some(Mask::Stars));
+    /// editor.paste("1234")?;
+    /// editor.show(&mut out)?;
+    /// assert!(String::from_utf8_lossy(&out).contains("PIN: ****"));
+    /// # Ok::<(), std::io::Error>(())
+    /// ```
+    pub fn hide(&mut self, mask: Option<Mask>) {
+        self.is_shown = false;
+        self.line.hide(match mask {
+            None => 0,
+            Some(Mask::Nothing) => 1,
+            Some(Mask::Stars) => 2,
+        });
     }
 
     /// Writes a text at the cursor, as one change. Line ends and tabs side by side become one blank, and at its end none; other control characters
@@ -226,7 +273,9 @@ impl<H> Editor<H> {
     /// `TooLong`, or `NoMemory`.
     pub fn paste(&mut self, text: &str) -> Result<(), LineError> {
         self.is_shown = false;
-        done(self.line.paste(text))
+        done(self.line.paste(text))?;
+        self.is_tabbed = false;
+        Ok(())
     }
 
     /// Writes what is left for the terminal, without the line: after it has ended, what leaves its row.
@@ -247,7 +296,7 @@ impl<H> Editor<H> {
 
 impl<H: Helper> Editor<H> {
     /// Takes an event: a key does what it is bound to, a paste is pasted, and any other event does nothing. At Tab without a modifier the helper's
-    /// text is pasted, if it has one.
+    /// text is pasted, if it has one. A second Tab lists its candidates below the line, up to the next event.
     ///
     /// # Errors
     ///
@@ -257,13 +306,13 @@ impl<H: Helper> Editor<H> {
         if let Event::Paste(text) = event {
             return self.paste(text).map(|()| Outcome::Going);
         }
-        if is_tab(event) {
-            if let Some(text) = self.helper.complete(&self.before(), &self.after()) {
-                return self.paste(&text).map(|()| Outcome::Going);
-            }
-        }
         self.is_shown = false;
-        match self.line.event(&flat::Event::of(event)) {
+        if is_tab(event) {
+            return self.complete(event).map(|()| Outcome::Going);
+        }
+        let answer = self.line.event(&flat::Event::of(event));
+        self.is_tabbed &= matches!(answer, Answer::TooLong | Answer::NoMemory | Answer::Unknown);
+        match answer {
             Answer::Accepted => Ok(Outcome::Line(self.line.accepted())),
             Answer::Interrupted => Ok(Outcome::Interrupted),
             Answer::Closed => Ok(Outcome::Closed),
@@ -272,7 +321,20 @@ impl<H: Helper> Editor<H> {
         }
     }
 
-    /// Writes what makes the row show the line as it is, with the helper's hint behind it; after Ctrl-L at the top of an empty window. While
+    /// Pastes the helper's text at Tab, and lists its candidates at the second one in a row.
+    fn complete(&mut self, tab: &Event) -> Result<(), LineError> {
+        match self.helper.complete(&self.before(), &self.after()) {
+            Some(text) => done(self.line.paste(&text))?,
+            None => done(self.line.event(&flat::Event::of(tab)))?,
+        }
+        if std::mem::replace(&mut self.is_tabbed, true) {
+            let names = self.helper.candidates(&self.before(), &self.after());
+            done(self.line.list(&names.join("\n")))?;
+        }
+        Ok(())
+    }
+
+    /// Writes what makes the rows show the line as it is, with the helper's hint behind it; after Ctrl-L at the top of an empty window. While
     /// an incremental search goes on, what it looks for is in the prompt's place. After a line has ended that is the next one: `flush` only leaves the row.
     ///
     /// # Errors

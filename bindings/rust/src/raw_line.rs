@@ -78,7 +78,10 @@ const _: () = {
 extern "C" {
     fn gelvanh_line_new(line: *mut At, limits: *const Limits) -> u32;
     fn gelvanh_line_free(line: At);
-    fn gelvanh_line_begin(line: *mut At, prompt: *const u8, length: usize, columns: u16) -> u32;
+    fn gelvanh_line_begin(line: *mut At, prompt: *const u8, length: usize, columns: u16, rows: u16) -> u32;
+    fn gelvanh_line_resize(line: *mut At, columns: u16, rows: u16) -> u32;
+    fn gelvanh_line_hide(line: *mut At, how: u32) -> u32;
+    fn gelvanh_line_list(line: *mut At, names: *const u8, length: usize) -> u32;
     fn gelvanh_line_event(line: *mut At, event: *const Event) -> u32;
     fn gelvanh_line_paste(line: *mut At, text: *const u8, length: usize) -> u32;
     fn gelvanh_line_hint(line: *mut At, hint: *const u8, length: usize) -> u32;
@@ -109,8 +112,21 @@ impl Handle {
         (answer == 0).then(|| Handle(at))
     }
 
-    pub fn begin(&mut self, prompt: &str, columns: u16) -> Answer {
-        unsafe { gelvanh_line_begin(&mut self.0, prompt.as_ptr(), prompt.len(), columns) }.into()
+    pub fn begin(&mut self, prompt: &str, columns: u16, rows: u16) -> Answer {
+        unsafe { gelvanh_line_begin(&mut self.0, prompt.as_ptr(), prompt.len(), columns, rows) }.into()
+    }
+
+    pub fn resize(&mut self, columns: u16, rows: u16) -> Answer {
+        unsafe { gelvanh_line_resize(&mut self.0, columns, rows) }.into()
+    }
+
+    pub fn hide(&mut self, how: u32) -> Answer {
+        unsafe { gelvanh_line_hide(&mut self.0, how) }.into()
+    }
+
+    /// Lists names with a line feed between them.
+    pub fn list(&mut self, names: &str) -> Answer {
+        unsafe { gelvanh_line_list(&mut self.0, names.as_ptr(), names.len()) }.into()
     }
 
     pub fn event(&mut self, event: &Event) -> Answer {

@@ -18,7 +18,7 @@ use std::io::{self, Write};
 use std::ops::{Deref, DerefMut};
 use std::time::Duration;
 
-pub use gelvanh::line::{Helper, Limits, LineError, Outcome, Terminal, Words};
+pub use gelvanh::line::{Helper, Limits, LineError, Mask, Outcome, Terminal, Words};
 
 /// The terminal that `event::read` reads, and standard output.
 struct Tty;
@@ -44,8 +44,8 @@ impl Terminal for Tty {
         Ok(was_on != is_on)
     }
 
-    fn columns(&mut self) -> io::Result<u16> {
-        Ok(terminal::size().map_or(0, |(columns, _)| columns))
+    fn size(&mut self) -> io::Result<(u16, u16)> {
+        Ok(terminal::size().unwrap_or_default())
     }
 
     fn has_event(&mut self) -> io::Result<bool> {
@@ -90,12 +90,12 @@ impl<H> Editor<H> {
 }
 
 impl<H: Helper> Editor<H> {
-    /// Asks for a line in the cursor's row, behind a prompt, until Enter, Ctrl-C, or Ctrl-D in an empty line. It returns neither
+    /// Asks for a line from the cursor's row on, behind a prompt, until Enter, Ctrl-C, or Ctrl-D in an empty line. It returns neither
     /// `Outcome::Going` nor `Ring`.
     ///
     /// Raw mode is on meanwhile, and so are pastes as events, unless this crate lacks the feature `bracketed-paste`. Both are off again however
-    /// it ends; a raw mode that was on before stays on. A text without room, and a search that finds nothing, ring the bell. After a resize the row is drawn anew, and Ctrl-L clears
-    /// the window before. The editor may hold an unfinished line, as after an error: then that line goes on.
+    /// it ends; a raw mode that was on before stays on. A text without room, and a search that finds nothing, ring the bell. After a resize the rows are
+    /// drawn anew, and Ctrl-L clears the window before. The editor may hold an unfinished line, as after an error: then that line goes on.
     ///
     /// # Errors
     ///
@@ -104,6 +104,25 @@ impl<H: Helper> Editor<H> {
     pub fn readline(&mut self, prompt: &str) -> io::Result<Outcome> {
         self.editor.readline(prompt, &mut Tty)
     }
+}
+
+/// Asks for a line that nobody is to read, as a password: as `Editor::readline` does, but nothing is shown of the line, or a star for each
+/// character. No history and no undo has it then.
+///
+/// # Errors
+///
+/// Those of `Editor::readline`, and what was typed before an error is lost.
+///
+/// ```no_run
+/// use crossterm::line::{read_hidden, Mask, Outcome};
+///
+/// if let Outcome::Line(password) = read_hidden("Password: ", Mask::Stars)? {
+///     println!("{} characters", password.chars().count());
+/// }
+/// # Ok::<(), std::io::Error>(())
+/// ```
+pub fn read_hidden(prompt: &str, mask: Mask) -> io::Result<Outcome> {
+    gelvanh::line::read_hidden(prompt, mask, &mut Tty)
 }
 
 impl<H> Deref for Editor<H> {

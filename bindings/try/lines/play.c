@@ -1,5 +1,5 @@
-/* Random scripts of a line, and what comes of them. Words of a script: `b80:3e20` begins a row with a prompt, `k15,97,0,0` is a key by code, value,
- * modifiers and press, `p6162` a paste, `y6f6e650a` a history, and `s` shows.
+/* Random scripts of a line, and what comes of them. Words of a script: `b80,24:3e20` begins a line with a prompt, `r40,9` is another size, `h2` hides
+ * the line, `k15,97,0,0` is a key by code, value, modifiers and press, `p6162` a paste, `y6f6e650a` a history, and `s` shows.
  *
  * play scripts COUNT        prints scripts, a line each
  * play run < SCRIPTS        prints a line for each: answers, accepted lines, the text and its part before the cursor, the history, the output
@@ -72,7 +72,7 @@ static void print_hex(const char *kind, const char *text) {
 }
 
 static void print_begin(void) {
-    printf("b%u", draw(2) ? 80 : draw(40));
+    printf("b%u,%u", draw(2) ? 80 : draw(40), draw(2) ? 24 : draw(6));
     print_hex(":", prompts[draw(sizeof prompts / sizeof *prompts)]);
 }
 
@@ -107,17 +107,26 @@ static void print_script(void) {
             print_hex("p", texts[draw(sizeof texts / sizeof *texts)]);
             break;
         case 1:
-            if (draw(4) == 0)
+            switch (draw(8)) {
+            case 0: case 1:
                 print_hex("y", histories[draw(sizeof histories / sizeof *histories)]);
-            else
+                break;
+            case 2:
+                printf("h%u", draw(3));
+                break;
+            case 3: case 4:
+                printf("r%u,%u", draw(2) ? 80 : draw(40), draw(2) ? 24 : draw(6));
+                break;
+            default:
                 print_begin();
+            }
             break;
         case 2: case 3: case 4:
             printf("s");
             break;
         case 5:
             if (draw(3) == 0) {
-                printf("k1,0,0,0");
+                printf(draw(2) ? "k1,0,0,0" : "p68 k1,0,0,0 k1,0,0,0 s");
                 break;
             } /* fall through */
         default:
@@ -136,10 +145,16 @@ struct player {
 };
 
 static const char *const names[] = {"help", "history", "hi there"};
+static const char names_in_lines[] = "help\nhistory\nhi there";
 
+/* What the first name has behind the last word of a text. */
 static const char *rest_of(const char *text, size_t length) {
+    size_t word = length;
+    while (word > 0 && text[word - 1] != ' ')
+        word--;
+    length -= word;
     for (size_t i = 0; length > 0 && i < sizeof names / sizeof *names; i++)
-        if (strlen(names[i]) > length && !memcmp(names[i], text, length))
+        if (strlen(names[i]) > length && !memcmp(names[i], text + word, length))
             return names[i] + length;
     return "";
 }
@@ -164,14 +179,21 @@ static size_t drain(struct player *player, uint8_t *into, size_t room) {
 static uint32_t act(struct player *player, const char *word) {
     uint8_t bytes[256], text[4096];
     struct gelvanh_event event = {GELVANH_KEY, 0, 0, 0, 0, 0, 0, 0, 0};
-    unsigned a, b, c, d, columns;
+    unsigned a, b, c, d, columns, rows;
     uint32_t answer;
     size_t length;
     switch (*word) {
     case 'b':
         player->is_shown = false;
-        sscanf(word, "b%u", &columns);
-        return gelvanh_line_begin(&player->line, bytes, from_hex(strchr(word, ':') + 1, bytes), (uint16_t)columns);
+        sscanf(word, "b%u,%u", &columns, &rows);
+        return gelvanh_line_begin(&player->line, bytes, from_hex(strchr(word, ':') + 1, bytes), (uint16_t)columns, (uint16_t)rows);
+    case 'r':
+        player->is_shown = false;
+        sscanf(word, "r%u,%u", &columns, &rows);
+        return gelvanh_line_resize(&player->line, (uint16_t)columns, (uint16_t)rows);
+    case 'h':
+        player->is_shown = false;
+        return gelvanh_line_hide(&player->line, (uint32_t)(word[1] - '0'));
     case 'y':
         return gelvanh_line_load_history(&player->line, bytes, from_hex(word + 1, bytes));
     case 'p':
@@ -190,13 +212,8 @@ static uint32_t act(struct player *player, const char *word) {
         player->is_shown = false;
         sscanf(word, "k%u,%u,%u,%u", &a, &b, &c, &d);
         event.code = (uint16_t)a, event.value = b, event.modifiers = (uint8_t)c, event.press = (uint8_t)d;
-        length = gelvanh_line_cursor(&player->line);
-        if (event.code == GELVANH_TAB && c == 0 && d != GELVANH_RELEASE) {
-            gelvanh_line_text(&player->line, text, sizeof text);
-            const char *rest = rest_of((char *)text, length);
-            if (*rest)
-                return gelvanh_line_paste(&player->line, (const uint8_t *)rest, strlen(rest));
-        }
+        if (event.code == GELVANH_TAB && c == 0 && d != GELVANH_RELEASE)
+            return gelvanh_line_complete(&player->line, (const uint8_t *)names_in_lines, sizeof names_in_lines - 1);
         return gelvanh_line_event(&player->line, &event);
     }
 }

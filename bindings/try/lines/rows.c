@@ -17,7 +17,7 @@ static struct gelvanh_line made(void) {
     struct gelvanh_line line;
     line.at = NULL;
     CHECK(gelvanh_line_new(&line, &limits) == GELVANH_LINE_GOES_ON && line.at != NULL);
-    CHECK(gelvanh_line_begin(&line, bytes("> "), 2, 20) == GELVANH_LINE_GOES_ON);
+    CHECK(gelvanh_line_begin(&line, bytes("> "), 2, 20, 5) == GELVANH_LINE_GOES_ON);
     return line;
 }
 
@@ -114,13 +114,18 @@ static void refused(void) {
     CHECK(gelvanh_line_paste(&line, bytes("c\377"), 2) == GELVANH_LINE_UNKNOWN);
     CHECK(gelvanh_line_load_history(&line, bytes("c\377"), 2) == GELVANH_LINE_UNKNOWN);
     CHECK(gelvanh_line_hint(&line, bytes("c\377"), 2) == GELVANH_LINE_UNKNOWN);
-    CHECK(gelvanh_line_begin(&line, bytes("c\377"), 2, 80) == GELVANH_LINE_UNKNOWN);
-    CHECK(gelvanh_line_begin(&line, bytes("c\033"), 2, 80) == GELVANH_LINE_UNKNOWN);
+    CHECK(gelvanh_line_begin(&line, bytes("c\377"), 2, 80, 24) == GELVANH_LINE_UNKNOWN);
+    CHECK(gelvanh_line_begin(&line, bytes("c\033"), 2, 80, 24) == GELVANH_LINE_UNKNOWN);
+    CHECK(gelvanh_line_complete(&line, bytes("c\377"), 2) == GELVANH_LINE_UNKNOWN);
+    CHECK(gelvanh_line_list(&line, bytes("c\377"), 2) == GELVANH_LINE_UNKNOWN);
+    CHECK(gelvanh_line_hide(&line, 3) == GELVANH_LINE_UNKNOWN);
     CHECK(has(&line, "ab", 2) && writes(&line, ""));
     gelvanh_line_free(line);
     CHECK(gelvanh_line_new(&small, &short_one) == GELVANH_LINE_GOES_ON);
     CHECK(gelvanh_line_paste(&small, bytes("abcd"), 4) == GELVANH_LINE_TOO_LONG && has(&small, "", 0));
-    CHECK(gelvanh_line_paste(&small, bytes("abc"), 3) == GELVANH_LINE_GOES_ON);
+    CHECK(gelvanh_line_paste(&small, bytes("ab"), 2) == GELVANH_LINE_GOES_ON);
+    CHECK(gelvanh_line_complete(&small, bytes("abcd"), 4) == GELVANH_LINE_TOO_LONG && has(&small, "ab", 2));
+    CHECK(gelvanh_line_complete(&small, bytes("abc"), 3) == GELVANH_LINE_GOES_ON && has(&small, "abc", 3));
     CHECK(type(&small, GELVANH_CHAR, 'd', 0) == GELVANH_LINE_TOO_LONG && has(&small, "abc", 3));
     gelvanh_line_free(small);
 }
@@ -163,13 +168,13 @@ static void frames(void) {
     CHECK(gelvanh_line_output(&other, byte, 1) == 0);
     CHECK(type(&line, GELVANH_ENTER, 0, 0) == GELVANH_LINE_ACCEPTED && writes(&line, "\033[K\r\n"));
     /* 0 columns are 80; with one nothing has room. */
-    CHECK(gelvanh_line_begin(&line, bytes("> "), 2, 0) == GELVANH_LINE_GOES_ON && gelvanh_line_hint(&line, NULL, 0) == GELVANH_LINE_GOES_ON);
+    CHECK(gelvanh_line_begin(&line, bytes("> "), 2, 0, 0) == GELVANH_LINE_GOES_ON && gelvanh_line_hint(&line, NULL, 0) == GELVANH_LINE_GOES_ON);
     CHECK(gelvanh_line_show(&line) == GELVANH_LINE_GOES_ON);
     length = gelvanh_line_output(&line, slice, sizeof slice);
-    CHECK(gelvanh_line_begin(&line, bytes("> "), 2, 80) == GELVANH_LINE_GOES_ON && gelvanh_line_show(&line) == GELVANH_LINE_GOES_ON);
+    CHECK(gelvanh_line_begin(&line, bytes("> "), 2, 80, 24) == GELVANH_LINE_GOES_ON && gelvanh_line_show(&line) == GELVANH_LINE_GOES_ON);
     slice[length < sizeof slice ? length : 0] = 0;
     CHECK(length > 10 && writes(&line, (const char *)slice));
-    CHECK(gelvanh_line_begin(&line, bytes("> "), 2, 1) == GELVANH_LINE_GOES_ON);
+    CHECK(gelvanh_line_begin(&line, bytes("> "), 2, 1, 1) == GELVANH_LINE_GOES_ON);
     CHECK(gelvanh_line_show(&line) == GELVANH_LINE_GOES_ON && writes(&line, ""));
     gelvanh_line_free(other);
     gelvanh_line_free(line);
@@ -256,7 +261,7 @@ static void searches(void) {
     struct gelvanh_line line = made();
     uint8_t slice[512];
     size_t length;
-    CHECK(gelvanh_line_begin(&line, bytes("> "), 2, 80) == GELVANH_LINE_GOES_ON);
+    CHECK(gelvanh_line_begin(&line, bytes("> "), 2, 80, 24) == GELVANH_LINE_GOES_ON);
     CHECK(gelvanh_line_load_history(&line, bytes("one\ntwo\n"), 8) == GELVANH_LINE_GOES_ON);
     CHECK(type(&line, GELVANH_CHAR, 'r', GELVANH_CONTROL) == GELVANH_LINE_GOES_ON && type(&line, GELVANH_CHAR, 'n', 0) == GELVANH_LINE_GOES_ON);
     CHECK(has(&line, "one", gelvanh_line_cursor(&line)) && gelvanh_line_show(&line) == GELVANH_LINE_GOES_ON);
@@ -269,7 +274,42 @@ static void searches(void) {
     gelvanh_line_free(line);
 }
 
+/* What a frame shows, behind what it had to write before: from the first letter of a text on. */
+static int shows(struct gelvanh_line *line, const char *text) {
+    static uint8_t slice[1024];
+    size_t length;
+    if (gelvanh_line_show(line) != GELVANH_LINE_GOES_ON)
+        return 0;
+    length = gelvanh_line_output(line, slice, sizeof slice - 1);
+    slice[length] = 0;
+    return strstr((const char *)slice, text) != NULL;
+}
+
+/* A line of three rows, and one that is hidden; a window of another size; words that are completed and listed. */
+static void prompts(void) {
+    struct gelvanh_line line = made();
+    CHECK(gelvanh_line_begin(&line, bytes("> "), 2, 5, 9) == GELVANH_LINE_GOES_ON && gelvanh_line_paste(&line, bytes("123456"), 6) == GELVANH_LINE_GOES_ON);
+    CHECK(shows(&line, "> 12\033[1G\033[1B3456\033[1G\033[1B"));
+    /* A line that ends leaves its three rows, and one that ends without a frame leaves one. */
+    CHECK(type(&line, GELVANH_LEFT, 0, 0) == GELVANH_LINE_GOES_ON && shows(&line, "\033[1A"));
+    CHECK(type(&line, GELVANH_ENTER, 0, 0) == GELVANH_LINE_ACCEPTED && writes(&line, "\r\n"));
+    CHECK(type(&line, GELVANH_ENTER, 0, 0) == GELVANH_LINE_ACCEPTED && writes(&line, "\r\n"));
+    CHECK(gelvanh_line_paste(&line, bytes("123456"), 6) == GELVANH_LINE_GOES_ON && shows(&line, "> 12"));
+    CHECK(gelvanh_line_resize(&line, 20, 9) == GELVANH_LINE_GOES_ON && writes(&line, "\033[2A\033[1G\033[J") && shows(&line, "> 123456"));
+    CHECK(gelvanh_line_hide(&line, GELVANH_LINE_STARS) == GELVANH_LINE_GOES_ON && shows(&line, "******"));
+    CHECK(gelvanh_line_hide(&line, GELVANH_LINE_NOTHING) == GELVANH_LINE_GOES_ON && shows(&line, "      ") && has(&line, "123456", 6));
+    CHECK(gelvanh_line_hide(&line, GELVANH_LINE_SHOWN) == GELVANH_LINE_GOES_ON && shows(&line, "123456"));
+    CHECK(type(&line, GELVANH_ENTER, 0, 0) == GELVANH_LINE_ACCEPTED && writes(&line, "\r\n"));
+    CHECK(gelvanh_line_paste(&line, bytes("say h"), 5) == GELVANH_LINE_GOES_ON && shows(&line, "say h"));
+    CHECK(gelvanh_line_complete(&line, bytes("hello\nhelp\nquit"), 15) == GELVANH_LINE_GOES_ON && has(&line, "say hel", 7) && shows(&line, "el"));
+    CHECK(gelvanh_line_complete(&line, bytes("hello\nhelp\nquit"), 15) == GELVANH_LINE_GOES_ON && has(&line, "say hel", 7) && shows(&line, "hello  help"));
+    CHECK(type(&line, GELVANH_LEFT, 0, 0) == GELVANH_LINE_GOES_ON && shows(&line, "     ") && gelvanh_line_list(&line, bytes("one\ntwo"), 7) == GELVANH_LINE_GOES_ON);
+    CHECK(shows(&line, "one  two") && type(&line, GELVANH_ENTER, 0, 0) == GELVANH_LINE_ACCEPTED && writes(&line, "\r\n\033[J"));
+    gelvanh_line_free(line);
+}
+
 int main(void) {
+    prompts();
     searches();
     extremes();
     limited();

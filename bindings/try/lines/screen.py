@@ -57,15 +57,21 @@ def play(program, folder):
     t.wait(["sum> 漢字e\u0301"], 7)
     t.type("", "C-e", "C-u")
     t.wait(["sum>"], 5)
-    # A long line scrolls sideways, in one row, and leaves the last column free.
+    # A second Tab lists all names below the line, and another key takes the list away.
+    t.type("", "Tab", "Tab")
+    t.wait(["sum>", "add     forget  help    sum"], 5)
+    t.type("s")
+    t.wait(["sum> sum"], 6)
+    t.type("", "BSpace")
+    # A long line takes two rows, and leaves the last column free.
     letters = "abcdefghij" * 6
     t.type(letters)
-    t.wait(["0 numbers, 0 in all", f"sum> {letters[-33:]}"], 38)
+    t.wait(["0 numbers, 0 in all", f"sum> {letters[:34]}", letters[34:]], 26)
     t.type("", "Home")
-    t.wait(["0 numbers, 0 in all", f"sum> {letters[:34]}"], 5)
-    # Of a wider window more is shown, and Ctrl-L leaves the line alone in it.
+    t.wait(["0 numbers, 0 in all", f"sum> {letters[:34]}", letters[34:]], 5)
+    # In a wider window it is drawn anew from its first row on, and Ctrl-L leaves the line alone in it.
     t.run("resize-window", "-t", "it", "-x", "60", "-y", "8")
-    t.wait(["0 numbers, 0 in all", f"sum> {letters[:54]}"], 5)
+    t.wait(["0 numbers, 0 in all", f"sum> {letters[:54]}", letters[54:]], 5)
     t.type("", "C-l", "C-k")
     t.wait(["sum>"], 5)
     assert t.shown()[0] == ["sum>"], t.shown()

@@ -1,14 +1,14 @@
-//! A shell of five commands: its lines are completed at Tab, have hints, and their history is kept in a file.
+//! A shell of six commands: its words are completed at Tab and listed at a second Tab, have hints, and its history is kept in a file.
 //!
-//! `example shell FILE` runs it in a terminal; `quit`, or Ctrl-D in an empty line, ends it. The history is read from the file at the start, and
+//! `example shell FILE` runs it in a terminal; `quit`, or Ctrl-D in an empty line, ends it. `password` asks for a line that nobody is to read. The history is read from the file at the start, and
 //! each line is appended to it as soon as it is accepted, so that none is lost, however the shell ends. Only its owner may read a file that is
 //! made. One that can't be written is named once, and the shell goes on.
 
 use crossterm::cursor::MoveTo;
-use crossterm::style::ColorOutput;
+use crossterm::style::{ColorOutput, Stylize};
 use crossterm::terminal::{Clear, ClearType};
 use crossterm::{QueueableCommand, queue};
-use line_editor::{Editor, Limits};
+use line_editor::{Editor, Limits, Mask};
 use own_terminal::{Feature, Tty};
 use prompt::{HistoryFile, HistoryTrouble, LockFile, Prompt, Read, Words};
 use std::fs::Files;
@@ -19,9 +19,9 @@ use std::time::Clock;
 const COLORS: ColorOutput = ColorOutput::Enabled;
 
 /// The names of the commands.
-const COMMANDS: [&str; 5] = ["help", "echo", "history", "clear", "quit"];
+const COMMANDS: [&str; 6] = ["help", "echo", "history", "clear", "password", "quit"];
 
-const HELP: &str = "help, echo WORDS, history, clear, quit";
+const HELP: &str = "help, echo WORDS, history, clear, password, quit";
 
 /// Prints lines, each with a carriage return.
 fn print<W: Write>(out: &mut W, text: &str) -> io::Result<()> {
@@ -47,6 +47,18 @@ fn obey<W: Write>(out: &mut W, editor: &Editor, line: &str) -> io::Result<bool> 
     Ok(true)
 }
 
+/// Asks for a line that nobody is to read, and says how many characters it has.
+fn ask_password<R: Wait>(rt: &R, tty: &mut Tty<'_>) -> io::Result<()> {
+    let read = Prompt::new("Password: ").read_hidden(rt, tty, Mask::Stars)?;
+    match read {
+        Read::Line(text) => {
+            let count = text.as_str().chars().count();
+            write!(tty.out, "It has {count} characters.\r\n")
+        }
+        Read::Interrupted | Read::Closed => Ok(()),
+    }
+}
+
 /// Says what is wrong with the history's file, if something is.
 fn say<W: Write>(out: &mut W, file: &str, trouble: Option<HistoryTrouble>) -> io::Result<()> {
     if let Some(trouble) = trouble {
@@ -67,13 +79,16 @@ where
     R::File: LockFile,
 {
     let words = Words::new(&COMMANDS);
-    let prompt = Prompt::new("$ ").with_helper(&words);
+    let parts = ["$ ".green()];
+    let prompt = Prompt::styled(&parts).with_helper(&words);
     for _ in rt.forever() {
         match prompt.read_line(rt, tty, editor)? {
             Read::Line(line) => {
                 let trouble = history.append(rt, editor, line.as_str())?;
                 say(&mut tty.out, file, trouble)?;
-                if !obey(&mut tty.out, editor, line.as_str())? {
+                if line.as_str().trim() == "password" {
+                    ask_password(rt, tty)?;
+                } else if !obey(&mut tty.out, editor, line.as_str())? {
                     break;
                 }
             }

@@ -7,7 +7,7 @@ use Rattle.line_c.specs.declared.keeping.LineSlot.{LineSlot}
 use Rattle.line_c.specs.Answers.{IsFresh, answer_number}
 use Rattle.line_c.specs.Kept.{LineState}
 
--- The editor's limits, by those of C. A line has one row.
+-- The editor's limits, by those of C. A line has no line feed.
 abbrev pub limits_of : LineLimits → Limits
 limits_of limits = record {
   bytes = limits.bytes;

@@ -17,7 +17,7 @@ pub enum Answer {
     Closed,
     /// The text has no room in the line. Nothing has changed.
     TooLong,
-    /// Memory was refused. Nothing has changed.
+    /// Memory was refused. Nothing has changed, but after a frame that isn't there: then the next one draws all rows.
     NoMemory,
     /// The numbers are no event's, a text isn't UTF-8, or a prompt has a control character. Nothing has changed.
     Unknown,

@@ -4,7 +4,7 @@ ghost use Rattle.line_editor.specs.Bounds.{size};
 ghost use Rattle.line_editor.specs.Splits.{line_text};
 ghost use Rattle.numbers.specs.Event.{event_known};
 ghost use Rattle.line_c.specs.Begun.{OpensLine, limits_of};
-ghost use Rattle.line_c.specs.Answers.{ReturnsAnswer, BeginsRow, Copies, CopiesHistory, MakesOf, Moves, ShowsLine, TakesInput, TakesText, WithText, with_hint, with_history};
+ghost use Rattle.line_c.specs.Answers.{BeginsLine, CompletesLine, Copies, CopiesHistory, MakesOf, MasksAs, Moves, Resizes, ReturnsAnswer, ShowsLine, TakesInput, TakesText, WithText, mask_at, with_hint, with_history, with_names};
 
 use crate::answers::Answer;
 use crate::keeping::{LineHandle, LineSlot};
@@ -33,7 +33,7 @@ pub struct LineLimits {
 }
 
 impl LineLimits {
-    /// The editor's limits. A line has one row.
+    /// The editor's limits. A line has no line feed.
     fn limits(&self) -> Limits
         ensures { result ≡ limits_of self.now }
     {
@@ -69,12 +69,33 @@ pub extern "C" fn gelvanh_line_free(alloc: Global, line: LineHandle) {
     let _kept = line.parts(alloc).into_box();
 }
 
-/// Begins a row with a prompt in UTF-8, in a window of so many columns, of which nothing is known. 0 columns count as 80.
+/// Begins a line with a prompt in UTF-8, in a window of so many columns and rows, of which nothing is known. 0 of them count as 80 and 24.
 #[unsafe(no_mangle)]
-pub extern "C" fn gelvanh_line_begin(line: &mut LineHandle, prompt: &[u8], columns: u16) -> u32
-    ensures { ReturnsAnswer result (WithText prompt.now (BeginsRow prompt.now columns)) line.old.value line.new.value }
+pub extern "C" fn gelvanh_line_begin(
+    line: &mut LineHandle,
+    prompt: &[u8],
+    columns: u16,
+    rows: u16,
+) -> u32
+    ensures { ReturnsAnswer result (WithText prompt.now (BeginsLine prompt.now columns rows)) line.old.value line.new.value }
 {
-    line.open().begin(prompt, columns).number()
+    line.open().begin(prompt, columns, rows).number()
+}
+
+/// Takes another size of the window: the output erases the line's rows, which the next frame draws anew. 0 columns or rows count as 80 and 24.
+#[unsafe(no_mangle)]
+pub extern "C" fn gelvanh_line_resize(line: &mut LineHandle, columns: u16, rows: u16) -> u32
+    ensures { ReturnsAnswer result (Resizes columns rows) line.old.value line.new.value }
+{
+    line.open().resize(columns, rows).number()
+}
+
+/// Shows the line (0), nothing of it (1) or a star for each of its characters (2), from the next frame on.
+#[unsafe(no_mangle)]
+pub extern "C" fn gelvanh_line_hide(line: &mut LineHandle, how: u32) -> u32
+    ensures { ReturnsAnswer result (MasksAs (mask_at how)) line.old.value line.new.value }
+{
+    line.open().hide(how).number()
 }
 
 /// Takes an event by its numbers. A reply, the mouse and a resize do nothing, and a paste's end is unknown: its text is pasted by itself.
@@ -93,6 +114,23 @@ pub extern "C" fn gelvanh_line_paste(line: &mut LineHandle, text: &[u8]) -> u32
     line.open().paste(text).number()
 }
 
+/// Completes the word before the cursor by the names in the lines of a text in UTF-8, and lists those that begin with it at the second time in a
+/// row.
+#[unsafe(no_mangle)]
+pub extern "C" fn gelvanh_line_complete(line: &mut LineHandle, names: &[u8]) -> u32
+    ensures { ReturnsAnswer result (WithText names.now (CompletesLine names.now)) line.old.value line.new.value }
+{
+    line.open().complete(names).number()
+}
+
+/// Lists the names in the lines of a text in UTF-8 below the line, up to the next event or text.
+#[unsafe(no_mangle)]
+pub extern "C" fn gelvanh_line_list(line: &mut LineHandle, names: &[u8]) -> u32
+    ensures { ReturnsAnswer result (WithText names.now (MakesOf (with_names names.now line.old.value))) line.old.value line.new.value }
+{
+    line.open().list(names).number()
+}
+
 /// Takes the text, in UTF-8, that is shown behind the line while the cursor is at its end.
 #[unsafe(no_mangle)]
 pub extern "C" fn gelvanh_line_hint(line: &mut LineHandle, hint: &[u8]) -> u32
@@ -101,7 +139,7 @@ pub extern "C" fn gelvanh_line_hint(line: &mut LineHandle, hint: &[u8]) -> u32
     line.open().take_hint(hint).number()
 }
 
-/// Shows the line: what changed in its row joins what is to be written. After Ctrl-L the window is cleared before, and the line is drawn at its
+/// Shows the line: what changed in its rows joins what is to be written. After Ctrl-L the window is cleared before, and the line is drawn at its
 /// top.
 #[unsafe(no_mangle)]
 pub extern "C" fn gelvanh_line_show(line: &mut LineHandle) -> u32

@@ -1,67 +1,102 @@
-//! An editor with the row in which its line is shown.
-ghost use Rattle.std.specs.Prelude.{◌≡◌, false, IfOk, IfSome, OnErr, OnOk, Some, encode_utf8_all, reverse, string_bytes, vec_items};
+//! An editor with the rows in which its line is shown.
+ghost use Rattle.std.specs.Prelude.{◌≡◌, ℕ, ◌++◌, true, false, [], IfOk, IfSome, List, OnErr, OnOk, Some, map, reverse, string_bytes, vec_items};
 ghost use Rattle.std.specs.Str.{chars};
+ghost use Rattle.std.specs.Str.Lines.{lines};
 ghost use Rattle.crossterm_types.specs.Seen.{seen_event};
 ghost use Rattle.line_editor.specs.Bounds.{size};
 ghost use Rattle.line_editor.specs.Splits.{line_text};
 ghost use Rattle.numbers.specs.Event.{event_known};
-ghost use Rattle.line_c.specs.declared.answers.Answer.TheVariants.{GoesOn, NoMemory};
-ghost use Rattle.line_c.specs.Kept.{unknown_row};
-ghost use Rattle.prompt.specs.Drawing.{search_text};
+ghost use Rattle.prompt.specs.Frames.{Draws, IsSizeOf};
 ghost use Rattle.prompt.specs.Prompts.{has_control};
-ghost use Rattle.line_c.specs.Answers.{BeginsRow, Copies, CopiesHistory, IsFresh, MakesOf, Moves, ShowsLine, TakesInput, TakesText, WithText, before_frame, counted, prompt_of, with_hint, with_history};
+ghost use Rattle.prompt.specs.Shown.{runs_of};
+ghost use Rattle.prompt.specs.Written.{prompt_runs, shown_for};
+ghost use Rattle.line_c.specs.declared.answers.Answer.TheVariants.{GoesOn};
+ghost use Rattle.line_c.specs.Kept.{unlisted};
+ghost use Rattle.line_c.specs.Answers.{BeginsLine, CompletesLine, Copies, CopiesHistory, FindsArea, IsFresh, MakesOf, MasksAs, Moves, Resizes, ShowsLine, TakesInput, TakesText, WithText, before_frame, completed_by, counted, lists, look_at, mask_at, with_hint, with_history, with_names};
 
 use crate::answers::{Answer, answer_to};
+use crate::given::{Given, Listed};
 use crossterm_types::event::{Event, InternalEvent};
-use line_editor::{EditFault, Editor, Limits, Outcome};
+use line_editor::{EditFault, Editor, Limits, Mask, Outcome};
 use numbers::{GelvanhEvent, event_of};
-use prompt::{Row, search_text};
+use prompt::{Helper, Prompt, Rows, Words};
 use std::alloc::{AllocError, Global};
 use std::collections::VecDeque;
-use std::io::{Read, Write};
+use std::io::{self, Read};
 use std::marker::Model;
 
-/// An editor, the row in which its line is shown, and what is still to be written to the terminal.
+/// An editor, the rows in which its line is shown, and what is still to be written to the terminal.
 #[derive(Drop)]
 pub struct Lines {
     alloc: Global,
     editor: Editor,
-    row: Row,
+    rows: Rows,
     prompt: String,
     // What is shown behind the line.
     hint: String,
+    // Names in lines, and which of them are listed below the line.
+    names: String,
+    listed: Listed,
+    // Whether the line was completed last.
+    completed: bool,
+    // What is shown in the line's place, if nobody is to read it.
+    mask: Option<Mask>,
     // The text of the line that was accepted last.
     accepted: String,
     // Whether the next frame clears the window.
     clears: bool,
     output: VecDeque<u8>,
-    // The bytes of a frame, which are joined to the output once all of it is there.
-    frame: Vec<u8>,
 }
 
 impl Model for Lines {
     ghost use Rattle.std.specs.String.{string_bytes};
     ghost use Rattle.std.specs.Str.{chars};
     ghost use Rattle.line_c.specs.Kept.{LineState};
+    ghost use Rattle.prompt.specs.Frames.{area_of};
 
     ghost Value = { LineState };
 
     ghost view = { λ l. record {
       editor = l.editor;
-      row = l.row;
+      area = area_of l.rows;
       prompt = string_bytes l.prompt;
       hint = string_bytes l.hint;
+      names = string_bytes l.names;
+      listed = l.listed;
+      completed = l.completed;
+      mask = l.mask;
       accepted = chars (string_bytes l.accepted);
       clears = l.clears;
       output = l.output.items;
     } };
 }
 
-/// The columns that count: 0, as a serial line says, are 80.
-fn counted(columns: u16) -> u16
-    ensures { result ≡ counted columns }
+/// A number of columns or rows: 0, as a serial line says, count as so many.
+fn counted(count: u16, usual: u16) -> u16
+    ensures { result ≡ counted count usual }
 {
-    if columns == 0 { 80 } else { columns }
+    if count == 0 { usual } else { count }
+}
+
+/// The names in the lines of a text.
+fn names_in(alloc: Global, text: &str) -> Result<Vec<&str>, AllocError>
+    ensures { IfOk result (λ names. map (λ n. n.now) (vec_items names) ≡ lines text.now) }
+{
+    text.lines().collect(alloc)
+}
+
+/// A prompt of this text, with what a caller has given. Something else is shown in the line's place, if nobody is to read it.
+fn prompt_with<'a>(text: &'a str, mask: Option<Mask>, given: &'a Given<'a>) -> Prompt<'a, Given<'a>>
+    ensures runs { prompt_runs result ≡ runs_of text.now [] }
+    ensures mask { result.mask ≡ mask }
+    ensures given { result.helper.now ≡ given.now }
+    ensures usual { (result.asks ≡ true) × (result.wraps ≡ true) }
+{
+    let prompt = Prompt::new(text).with_helper(given);
+    match mask {
+        None => prompt,
+        Some(mask) => prompt.with_mask(mask),
+    }
 }
 
 /// Copies a text into a slice, if it fits, and returns how many bytes it has.
@@ -75,48 +110,28 @@ fn copy_text(text: &str, slice: &mut [u8]) -> usize
     count
 }
 
-/// What is shown of a hint: nothing while an incremental search goes on.
-fn hint_behind(hint: &str, is_searching: bool) -> &str {
-    if is_searching { "" } else { hint }
-}
-
-/// What is shown before the line while an incremental search goes on.
-fn search_shown(alloc: Global, pattern: &str, is_ahead: bool) -> Result<String, AllocError>
-    ensures { IfOk result (λ text. string_bytes text ≡ search_text is_ahead (encode_utf8_all (chars pattern.now))) }
-{
-    search_text(alloc, pattern, is_ahead)
-}
-
-/// Begins the bytes of a frame: with what clears the window, if it does that.
-fn begin_frame(frame: &mut Vec<u8>, clears: bool) -> Result<(), AllocError>
-    ensures { OnOk result (vec_items frame.new ≡ before_frame clears) }
-{
-    frame.clear();
-    if clears {
-        frame.extend_from_slice(Row::clearing().as_bytes())?;
-    }
-    Ok(())
-}
-
-/// An editor in a row of 80 columns, with nothing written.
+/// An editor in a window of 80 columns and 24 rows, with nothing written.
 fn started(alloc: Global, limits: Limits) -> Result<Lines, EditFault>
     ensures { IfOk result (λ lines. IsFresh limits lines) }
 {
     let editor = Editor::new(alloc, limits)?;
-    let row = match Row::new(alloc, 80) {
-        Ok(row) => row,
+    let rows = match Rows::new(alloc, (80, 24)) {
+        Ok(rows) => rows,
         Err(_) => return Err(EditFault::Memory),
     };
     Ok(Lines {
         alloc,
         editor,
-        row,
+        rows,
         prompt: String::new(alloc),
         hint: String::new(alloc),
+        names: String::new(alloc),
+        listed: Listed::Nothing,
+        completed: false,
+        mask: None,
         accepted: String::new(alloc),
         clears: false,
         output: VecDeque::new(alloc),
-        frame: Vec::new(alloc),
     })
 }
 
@@ -134,39 +149,79 @@ pub(crate) fn made(alloc: Global, limits: Limits) -> Option<Box<Lines>>
 }
 
 impl Lines {
-    /// Takes a prompt, and a row of a window of so many columns, of which nothing is known.
-    fn take_prompt(&mut self, prompt: &str, columns: u16) -> Result<(), AllocError>
+    /// Takes a prompt, and the rows of a window of which nothing is known.
+    fn take_prompt(&mut self, prompt: &str, columns: u16, rows: u16) -> Result<(), AllocError>
         requires { has_control (chars prompt.now) ≡ false }
-        ensures ok { OnOk result (BeginsRow prompt.now columns GoesOn self.old self.new) }
+        ensures ok { OnOk result (BeginsLine prompt.now columns rows GoesOn self.old self.new) }
         ensures err { OnErr result (self.new ≡ self.old) }
     {
         let prompt = String::from_str(self.alloc, prompt)?;
-        self.row = Row::new(self.alloc, counted(columns))?;
+        self.rows = Rows::new(self.alloc, (counted(columns, 80), counted(rows, 24)))?;
         self.prompt = prompt;
+        self.clears = false;
+        self.unlist();
         Ok(())
     }
 
-    /// Begins a row with a prompt, in a window of so many columns.
-    fn begin_with(&mut self, prompt: &str, columns: u16) -> Answer
-        ensures { BeginsRow prompt.now columns result self.old self.new }
+    /// Begins a line with a prompt, in a window of so many columns and rows.
+    fn begin_with(&mut self, prompt: &str, columns: u16, rows: u16) -> Answer
+        ensures { BeginsLine prompt.now columns rows result self.old self.new }
     {
         if !prompt::is_shown(prompt) {
             return Answer::Unknown;
         }
-        match self.take_prompt(prompt, columns) {
+        match self.take_prompt(prompt, columns, rows) {
             Ok(()) => Answer::GoesOn,
             Err(_) => Answer::NoMemory,
         }
     }
 
     /// The same with a prompt of bytes.
-    pub(crate) fn begin(&mut self, prompt: &[u8], columns: u16) -> Answer
-        ensures { WithText prompt.now (BeginsRow prompt.now columns) result self.old self.new }
+    pub(crate) fn begin(&mut self, prompt: &[u8], columns: u16, rows: u16) -> Answer
+        ensures { WithText prompt.now (BeginsLine prompt.now columns rows) result self.old self.new }
     {
         match str::from_utf8(prompt) {
-            Ok(text) => self.begin_with(text, columns),
+            Ok(text) => self.begin_with(text, columns, rows),
             Err(_) => Answer::Unknown,
         }
+    }
+
+    /// Takes another size of the window: the rows are erased from the first one on.
+    pub(crate) fn resize(&mut self, columns: u16, rows: u16) -> Answer
+        ensures { Resizes columns rows result self.old self.new }
+    {
+        let before = self.output.len();
+        match self.rows.erase(&mut self.output) {
+            Ok(()) => {}
+            Err(_) => {
+                self.output.truncate(before);
+                return Answer::NoMemory;
+            }
+        }
+        self.rows.resize((counted(columns, 80), counted(rows, 24)));
+        Answer::GoesOn
+    }
+
+    /// Shows the line, nothing of it, or stars in its place, by the number of that.
+    pub(crate) fn hide(&mut self, how: u32) -> Answer
+        ensures { MasksAs (mask_at how) result self.old self.new }
+    {
+        let mask = match how {
+            0 => None,
+            1 => Some(Mask::Nothing),
+            2 => Some(Mask::Stars),
+            _ => return Answer::Unknown,
+        };
+        self.mask = mask;
+        Answer::GoesOn
+    }
+
+    /// No names are listed any more.
+    fn unlist(&mut self)
+        ensures { self.new ≡ unlisted self.old }
+    {
+        self.completed = false;
+        self.listed = Listed::Nothing;
     }
 
     /// Takes the text that is shown behind the line.
@@ -192,13 +247,17 @@ impl Lines {
         }
     }
 
-    /// Does what an event asks for. The row is left once the line has ended.
+    /// Does what an event asks for. The rows are left once the line has ended.
     fn turn(&mut self, event: &Event) -> Answer
         ensures { TakesInput (Some (seen_event event.now)) result self.old self.new }
     {
         let before = self.output.len();
-        if self.output.write(self.row.leaving().as_bytes()).is_err() {
-            return Answer::NoMemory;
+        match self.rows.leave(&mut self.output) {
+            Ok(()) => {}
+            Err(_) => {
+                self.output.truncate(before);
+                return Answer::NoMemory;
+            }
         }
         let answer = match self.editor.turn(event) {
             Ok(Outcome::Line(text)) => {
@@ -209,24 +268,26 @@ impl Lines {
             Ok(Outcome::Closed) => Answer::Closed,
             Ok(Outcome::Going) => {
                 self.output.truncate(before);
+                self.unlist();
                 return Answer::GoesOn;
             }
             Ok(Outcome::Ring) => {
                 self.output.truncate(before);
+                self.unlist();
                 return Answer::Rings;
             }
             Ok(Outcome::Clear) => {
                 self.output.truncate(before);
-                self.row.forget();
                 self.clears = true;
-                return Answer::GoesOn;
+                Answer::GoesOn
             }
             Err(fault) => {
                 self.output.truncate(before);
                 return answer_to(fault);
             }
         };
-        self.row.forget();
+        self.rows.forget();
+        self.unlist();
         answer
     }
 
@@ -237,7 +298,10 @@ impl Lines {
         match event_of::<Global>(event) {
             None => Answer::Unknown,
             Some(InternalEvent::Event(event)) => self.turn(&event),
-            Some(_) => Answer::GoesOn,
+            Some(_) => {
+                self.unlist();
+                Answer::GoesOn
+            }
         }
     }
 
@@ -246,7 +310,10 @@ impl Lines {
         ensures { TakesText text.now result self.old self.new }
     {
         match self.editor.paste(text) {
-            Ok(()) => Answer::GoesOn,
+            Ok(()) => {
+                self.unlist();
+                Answer::GoesOn
+            }
             Err(fault) => answer_to(fault),
         }
     }
@@ -261,48 +328,125 @@ impl Lines {
         }
     }
 
-    /// What is shown before the line: the prompt, or what an incremental search looks for.
-    fn text_before(&self) -> Result<String, AllocError>
-        ensures { IfOk result (λ text. string_bytes text ≡ prompt_of self.now) }
+    /// Keeps the names by which the line was completed: they are listed at the second time in a row.
+    fn keep_names(&mut self, names: String)
+        ensures { self.new ≡ completed_by (string_bytes names) self.old }
     {
-        match self.editor.pattern() {
-            None => String::from_str(self.alloc, self.prompt.as_str()),
-            Some(pattern) => search_shown(self.alloc, pattern, self.editor.is_ahead()),
+        self.names = names;
+        self.listed = if self.completed {
+            Listed::Beginning
+        } else {
+            Listed::Nothing
+        };
+        self.completed = true;
+    }
+
+    /// Completes the word before the cursor by the names in the lines of a text, and lists those that begin with it at the second time in a row.
+    fn complete_by(&mut self, text: &str) -> Answer
+        ensures { CompletesLine text.now result self.old self.new }
+    {
+        let kept = match String::from_str(self.alloc, text) {
+            Ok(kept) => kept,
+            Err(_) => return Answer::NoMemory,
+        };
+        let names = match names_in(self.alloc, text) {
+            Ok(names) => names,
+            Err(_) => return Answer::NoMemory,
+        };
+        let words = Words::new(&names);
+        match words.complete(self.editor.line().before(), "") {
+            None => {}
+            Some(rest) => match self.editor.paste(rest) {
+                Ok(()) => {}
+                Err(fault) => return answer_to(fault),
+            },
+        }
+        self.keep_names(kept);
+        Answer::GoesOn
+    }
+
+    /// The same with a text of bytes.
+    pub(crate) fn complete(&mut self, names: &[u8]) -> Answer
+        ensures { WithText names.now (CompletesLine names.now) result self.old self.new }
+    {
+        match str::from_utf8(names) {
+            Ok(text) => self.complete_by(text),
+            Err(_) => Answer::Unknown,
         }
     }
 
-    /// Nothing is known of the row any more, since memory was refused for a frame.
-    fn give_up(&mut self) -> Answer
-        ensures answer { result ≡ NoMemory }
-        ensures row { self.new ≡ record self.old { row = unknown_row self.old.row } }
+    /// Lists the names in the lines of a text below the line.
+    fn list_text(&mut self, text: &str) -> Answer
+        ensures { MakesOf (with_names text.now self.old) result self.old self.new }
     {
-        self.row.forget();
-        Answer::NoMemory
+        match String::from_str(self.alloc, text) {
+            Ok(names) => {
+                self.names = names;
+                self.listed = Listed::All;
+                self.completed = false;
+                Answer::GoesOn
+            }
+            Err(_) => Answer::NoMemory,
+        }
     }
 
-    /// Shows the line: what changed in its row joins the output.
+    /// The same with a text of bytes.
+    pub(crate) fn list(&mut self, names: &[u8]) -> Answer
+        ensures { WithText names.now (MakesOf (with_names names.now self.old)) result self.old self.new }
+    {
+        match str::from_utf8(names) {
+            Ok(text) => self.list_text(text),
+            Err(_) => Answer::Unknown,
+        }
+    }
+
+    /// Begins a frame: with what clears the window, if that is due. Nothing is assumed of the cursor's column.
+    fn begin_frame(&mut self) -> io::Result<()>
+        ensures ok { OnOk result (FindsArea self.old.clears self.old.area self.new.area × (self.new.output ≡ self.old.output ++ before_frame self.old.clears)) }
+        ensures front { (bytes : List ℕ) × (self.new.output ≡ self.old.output ++ bytes) }
+        ensures rest { self.new ≡ record self.old { area = self.new.area; output = self.new.output } }
+        ensures size { IsSizeOf self.old.area self.new.area }
+    {
+        if self.clears {
+            self.rows.clear(&mut self.output)?;
+        }
+        self.rows.forget_cursor();
+        Ok(())
+    }
+
+    /// Draws the line.
+    fn draw(&mut self) -> io::Result<()>
+        ensures shows { OnOk result (Draws (shown_for (look_at self.old) (lists self.old.listed) self.old.editor) self.old.area self.new.area (Some self.old.output) (Some self.new.output)) }
+        ensures front { (bytes : List ℕ) × (self.new.output ≡ self.old.output ++ bytes) }
+        ensures rest { self.new ≡ record self.old { area = self.new.area; output = self.new.output } }
+        ensures size { IsSizeOf self.old.area self.new.area }
+    {
+        let names = names_in(self.alloc, self.names.as_str())?;
+        let given = Given::new(self.hint.as_str(), &names, self.listed);
+        let prompt = prompt_with(self.prompt.as_str(), self.mask, &given);
+        let lists = self.listed.lists();
+        prompt.show(&mut self.output, &self.editor, &mut self.rows, lists)
+    }
+
+    /// Shows the line: what changed joins the output, or nothing if memory is refused. Then nothing is known of the rows any more.
     pub(crate) fn show(&mut self) -> Answer
         ensures { ShowsLine result self.old self.new }
     {
-        match begin_frame(&mut self.frame, self.clears) {
-            Ok(()) => {}
-            Err(_) => return self.give_up(),
-        }
-        let text = match self.text_before() {
-            Ok(text) => text,
-            Err(_) => return self.give_up(),
+        let before = self.output.len();
+        let drawn = match self.begin_frame() {
+            Ok(()) => self.draw(),
+            Err(error) => Err(error),
         };
-        let hint = hint_behind(self.hint.as_str(), self.editor.pattern().is_some());
-        let line = self.editor.line();
-        match self.row.draw(&mut self.frame, text.as_str(), line, hint) {
-            Ok(()) => match self.output.write(&self.frame) {
-                Ok(_) => {
-                    self.clears = false;
-                    Answer::GoesOn
-                }
-                Err(_) => self.give_up(),
-            },
-            Err(_) => self.give_up(),
+        match drawn {
+            Ok(()) => {
+                self.clears = false;
+                Answer::GoesOn
+            }
+            Err(_) => {
+                self.output.truncate(before);
+                self.rows.forget();
+                Answer::NoMemory
+            }
         }
     }
 

@@ -31,3 +31,4 @@ pub mod Changing
 pub mod Drafting
 pub mod Ascii
 pub mod Passing
+pub mod Masking

@@ -19,4 +19,5 @@ pub mod Names
 pub mod Laws
 pub mod Views
 pub mod Seen
+pub mod Masks
 pub mod inside

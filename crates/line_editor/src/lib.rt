@@ -32,6 +32,7 @@
 //! | an action keeps the accepted lines; back in the history and forth again is the line that was left, with its edits and what can be undone of them | `laws::{keeps_history, comes_back}` |
 //! | an incremental search finds the nearest line that contains what is looked for, and nothing if none does; what is given up leaves the line that was there | `Editor::turn`, `laws::{finds_nearest, finds_newer, finds_piece}` |
 //! | of a line as much is seen as has room, from one place between clusters to another, with the cursor at its place in the line | `Line::seen`, `laws::{fits, keeps_clusters}` |
+//! | of a line that nobody is to read nothing is shown, or a star for each character | `Line::masked` |
 //! | the text of a history is its lines, the oldest first; a history that is loaded is the last lines of a text that have room; loading what was saved gives the same history | `Editor::{history_text, load_history}`, `laws::loads_saved` |
 //! | a line that is appended by itself has the text that it has in a history's | `Editor::saved_line` |
 //! | a line has no more bytes than its limit, the history no more lines and undo no more steps for each line; no more lines are kept for others than the history has; whatever is done that isn't refused | `laws::stays_bounded` |
@@ -65,6 +66,7 @@
 //! | `Laws` | what edits keep | `laws` |
 //! | `Views` | what is seen of a line in a row | `Line::seen` |
 //! | `Seen` | what is true of what is seen | `Line::seen`, `laws::{fits, keeps_clusters}` |
+//! | `Masks` | what is shown of a line that nobody is to read | `Line::masked` |
 //!
 //! `specs/inside/` says the same of a part, and no public clause cites it.
 //!
@@ -85,6 +87,7 @@ pub mod laws;
 mod left;
 mod limits;
 mod lines;
+mod masks;
 mod moves;
 mod names;
 mod outcome;
@@ -104,5 +107,6 @@ pub use fault::EditFault;
 pub use keys::{KeyCommand, command_of};
 pub use limits::Limits;
 pub use lines::Line;
+pub use masks::Mask;
 pub use outcome::Outcome;
 pub use places::{Stop, Target};

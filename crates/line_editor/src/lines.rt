@@ -1,11 +1,12 @@
 //! A line of text with a cursor.
-ghost use Rattle.std.specs.Prelude.{◌≡◌, ℕ, ◌+◌, ◌-◌, ◌<◌, ◌≤◌, List, [], ◌∷◌, ◌++◌, IfOk, MatchBool, MatchOption, None, Some, OnErr, OnOk, take, drop, length, reverse, slice_range, true};
+ghost use Rattle.std.specs.Prelude.{◌≡◌, ℕ, ◌+◌, ◌-◌, ◌<◌, ◌≤◌, List, [], ◌∷◌, ◌++◌, IfOk, MatchBool, MatchOption, None, Some, OnErr, OnOk, take, drop, length, replicate, reverse, slice_range, true};
 ghost use Rattle.std.specs.List.{insert_slice};
 ghost use Rattle.std.specs.String.{string_bytes};
 ghost use Rattle.std.specs.Str.{chars, IsCharBoundary};
 ghost use Rattle.unicode_segmentation.specs.Segments.{chars_before, chars_from};
 ghost use Rattle.line_editor.specs.Bounds.{size};
 ghost use Rattle.line_editor.specs.Edits.{IsSettled, cut_text, empty_line, reach_end, erased, inserted, line_with, meeting, settled, start_of, transposed};
+ghost use Rattle.line_editor.specs.Masks.{masked};
 ghost use Rattle.line_editor.specs.Places.{target_place};
 ghost use Rattle.line_editor.specs.Rows.{row_place};
 ghost use Rattle.line_editor.specs.Seen.{IsInClusters, IsSeen};
@@ -16,6 +17,7 @@ ghost use Rattle.line_editor.specs.Views.{column, seen_text};
 ghost use Rattle.line_editor.specs.inside.Changes.{Fits, TakesBack, line_bytes, spliced};
 
 use crate::changes::Change;
+use crate::masks::Mask;
 use crate::places::{Stop, Target, ahead, place_of};
 use crate::rows::row_place;
 use crate::texts::{before_end, is_nothing, split_last, utf8_len};
@@ -141,6 +143,13 @@ fn meeting(text: &str, at: usize) -> usize
         return at;
     }
     place_of(text, at, Target::Back(Stop::Cluster))
+}
+
+/// A star for each character of a text.
+fn stars<A: Allocator>(alloc: A, text: &str) -> Result<String<A>, AllocError>
+    ensures { IfOk result (λ made. string_bytes made ≡ replicate (length (chars text.now)) 42) }
+{
+    "*".repeat(alloc, text.chars().count())
 }
 
 impl<A: Allocator> Line<A> {
@@ -340,6 +349,29 @@ impl<A: Allocator> Line<A> {
         let (from, column) = start_seen(text, self.at, room);
         let to = end_seen(text, self.at, column, room);
         (&text[from..to], column)
+    }
+
+    /// The line that is shown in the place of this one, if nobody is to read it.
+    ///
+    /// # Errors
+    ///
+    /// `AllocError` if memory was refused.
+    ///
+    /// ```
+    /// let shown = editor.line().masked(alloc, Mask::Stars)?;
+    /// rows.draw_next(&mut out, &Shown::new("Password: ", &shown))?;
+    /// ```
+    pub fn masked<B: Allocator + Clone>(&self, alloc: B, mask: Mask) -> Result<Line<B>, AllocError>
+        ensures { IfOk result (λ line. line ≡ masked mask self.now) }
+    {
+        match mask {
+            Mask::Nothing => Ok(Line::new(alloc)),
+            Mask::Stars => {
+                let before = stars(alloc.clone()?, self.before())?;
+                let after = stars(alloc.clone()?, self.after())?;
+                Line::of_parts(alloc, before.as_str(), after.as_str())
+            }
+        }
     }
 
     /// The text that a target reaches.

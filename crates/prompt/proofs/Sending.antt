@@ -45,3 +45,8 @@ if_ok_with (Err e) f a = tt
 pub if_err_with : {X E : Type 0} {A B : E → Type 0} (r : Result X E) → ((e : E) → A e → B e) → IfErr r A → IfErr r B
 if_err_with (Ok x) f a = tt
 if_err_with (Err e) f a = f e a
+
+-- What holds of every error holds of the one that there is, if there is one.
+pub if_err_any : {X E : Type 0} {P : E → Type 0} (r : Result X E) → ((e : E) → P e) → IfErr r P
+if_err_any (Ok x) all = tt
+if_err_any (Err e) all = all e

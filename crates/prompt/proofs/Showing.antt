@@ -1,5 +1,6 @@
 -- One more piece, and one more event, in the list of what was written.
-use Rattle.std.proofs.Common.{◌≡◌, inl, inr, ℕ, ◌≤◌, ◌++◌, Bool, true, false, cond, List, [], ◌∷◌, Option, Some, Result, Ok, Err, OnErr, OnOk, refl, sym, subst, append_assoc, append-nil}
+use Rattle.std.proofs.Common.{◌≡◌, inl, inr, ℕ, ◌≤◌, ◌++◌, ◌&&◌, Bool, true, false, cond, List, [], ◌∷◌, Option, Some, None, Result, Ok, Err, OnErr, OnOk, refl, sym, subst, ap, ◌∙◌, append_assoc, append-nil}
+use Rattle.std.proofs.lemmas.List.{reverse-append}
 use Rattle.std.proofs.KnownBytes.{Appends-nil, Appends-trans}
 use Rattle.std.specs.Io.KnownBytes.{Appends}
 use Rattle.std.specs.declared.io.ErrorKind.{ErrorKind}
@@ -16,10 +17,31 @@ use Rattle.line_editor.specs.States.{EditorState}
 use Rattle.line_editor.specs.Turns.{Answer, Going, Clear, Ring, IsGoing}
 use Rattle.prompt.specs.Asking.{GoesOn, unread, further, placed, stopped, refused, after_event, answer_to}
 use Rattle.prompt.specs.Drawing.{clearing}
-use Rattle.prompt.specs.Frames.{Area, Draws, DrawsFront, IsNewArea, bell, erasure, leaving_area, resized_area, unseen}
+use Rattle.line_editor.specs.declared.masks.Mask.{Mask}
+use Rattle.prompt.specs.Completing.{as_read, is_tab}
+use Rattle.prompt.specs.Frames.{Area, Draws, DrawsFront, IsLineFrame, IsNewArea, bell, erasure, leaving_area, resized_area, unseen}
 use Rattle.prompt.specs.Lines.{going_on_events}
-use Rattle.prompt.specs.Written.{GoesOnShown, HasWritten, HasWrittenFront, LineEndsShown, PromptView, Stage, Shows, Due, Clears, Resized, StopsShown, Pieces, nothing_yet, shown, moved_on, missed, overflowed, rung, let_clear, cleared, resized, asked, erased, hint_for, resizes, overflows, prompt_for}
+use Rattle.prompt.specs.Shown.{PromptRun, runs_of}
+use Rattle.prompt.specs.declared.asking.Prompt.{Prompt}
+use Rattle.prompt.specs.Written.{GoesOnShown, IsNewPrompt, look_of, plain_look, HasWritten, HasWrittenFront, LineEndsShown, PromptView, Stage, Shows, Due, Clears, Resized, StopsShown, Pieces, nothing_yet, shown, moved_on, missed, overflowed, rung, let_clear, cleared, resized, asked, erased, begins_with_tab, begins_with_tabs, ends_in_tab, ends_in_tabs, resizes, overflows, shown_for}
 use Rattle.prompt.specs.inside.Turning.{MayAsk, MayQuery, TakesAs, stage_after}
+use Rattle.prompt.proofs.Drawn.{new_area, new_is}
+
+-- Whether the last event is Tab, once one more was read, and whether the last two are.
+pub ends_so : (es : List Seen) (e : Seen) → ends_in_tab (es ++ e ∷ []) ≡ is_tab e
+ends_so es e = ap begins_with_tab (reverse-append es (e ∷ []))
+
+pub lists_so : (es : List Seen) (e : Seen) (tab tabbed lists : Bool) → tab ≡ is_tab e → ends_in_tab es ≡ tabbed → lists ≡ (tab && tabbed) → ends_in_tabs (es ++ e ∷ []) ≡ lists
+lists_so es e tab tabbed lists is was both =
+    ap begins_with_tabs (reverse-append es (e ∷ [])) ∙ ap (λ b. b && ends_in_tab es) (sym is) ∙ ap (λ b. tab && b) was ∙ sym both
+
+-- A prompt as it is at first.
+pub new_look : {H : Type 0} (text : List ℕ) (p : Prompt H) → IsNewPrompt (runs_of text []) p → look_of as_read (λ _. []) (λ _ _. []) p ≡ plain_look text
+new_look text p (runs, mask, asks, wraps) =
+    ap (λ (x : List PromptRun). record { given = as_read; prompt = x; hints = λ _. []; candidates = λ _ _. []; mask = p.mask; asks = p.asks; wraps = p.wraps }) runs
+    ∙ ap (λ (x : Option Mask). record { given = as_read; prompt = runs_of text []; hints = λ _. []; candidates = λ _ _. []; mask = x; asks = p.asks; wraps = p.wraps }) mask
+    ∙ ap (λ (x : Bool). record { given = as_read; prompt = runs_of text []; hints = λ _. []; candidates = λ _ _. []; mask = None; asks = x; wraps = p.wraps }) asks
+    ∙ ap (λ (x : Bool). record { given = as_read; prompt = runs_of text []; hints = λ _. []; candidates = λ _ _. []; mask = None; asks = true; wraps = x }) wraps
 
 -- Bytes that grew by a text whole or, at an error, by a beginning of it.
 pub either_way : {X E : Type 0} (r : Result X E) (old new : Option (List ℕ)) (text : List ℕ) → OnOk r (Appends old new text) → OnErr r (AppendsFront old new text) → AppendsFront old new text
@@ -72,19 +94,20 @@ module _ (look : PromptView) (w : EditorState) where
       more_front es k stage out old new before more.front more.rest grown more.grown (subst (λ t. Pieces look w es k stage (before ++ t)) more.split writes)
 
   -- A frame.
-  pub shows : (es : List Seen) (k : EditorState) (a b : Area) (rings : Bool) (out old new : Option (List ℕ)) → HasWritten look w es k (Due a rings) out old
-      → Draws (prompt_for look.prompt k) k.line (hint_for look.hints k) a b old new → HasWritten look w es k (Shows b rings) out new
-  shows es k a b rings out old new h (bytes, grown, frame) = record {
+  pub shows : (es : List Seen) (k : EditorState) (a b : Area) (rings lists : Bool) (out old new : Option (List ℕ)) → ends_in_tabs es ≡ lists → HasWritten look w es k (Due a rings) out old
+      → Draws (shown_for look lists k) a b old new → HasWritten look w es k (Shows b rings) out new
+  shows es k a b rings lists out old new tabs h (bytes, grown, frame) = record {
     bytes = h.bytes ++ bytes;
     appended = Appends-trans out old new h.bytes bytes h.appended grown;
-    writes = shown es k a b rings h.bytes bytes h.writes frame;
+    writes = shown es k a b rings h.bytes bytes h.writes (subst (λ (l : Bool). IsLineFrame (shown_for look l k) a b bytes) (sym tabs) frame);
   }
 
-  pub shows_front : (es : List Seen) (k : EditorState) (a : Area) (rings : Bool) (out old new : Option (List ℕ)) → HasWritten look w es k (Due a rings) out old
-      → DrawsFront (prompt_for look.prompt k) k.line (hint_for look.hints k) a old new → HasWrittenFront look w es k out new
-  shows_front es k a rings out old new h (b, front, rest, grown, inl none) = all_of es k (Due a rings) out new (still es k (Due a rings) out old new h (subst (Appends old new) none grown))
-  shows_front es k a rings out old new h (b, front, rest, grown, inr frame) =
-      more_front es k (Shows b rings) out old new h.bytes front rest h.appended grown (shown es k a b rings h.bytes (front ++ rest) h.writes frame)
+  pub shows_front : (es : List Seen) (k : EditorState) (a : Area) (rings lists : Bool) (out old new : Option (List ℕ)) → ends_in_tabs es ≡ lists → HasWritten look w es k (Due a rings) out old
+      → DrawsFront (shown_for look lists k) a old new → HasWrittenFront look w es k out new
+  shows_front es k a rings lists out old new tabs h (b, front, rest, grown, inl none) = all_of es k (Due a rings) out new (still es k (Due a rings) out old new h (subst (Appends old new) none grown))
+  shows_front es k a rings lists out old new tabs h (b, front, rest, grown, inr frame) =
+      let whole = subst (λ (l : Bool). IsLineFrame (shown_for look l k) a b (front ++ rest)) (sym tabs) frame in
+      more_front es k (Shows b rings) out old new h.bytes front rest h.appended grown (shown es k a b rings h.bytes (front ++ rest) h.writes whole)
 
   -- The bell.
   pub rings : (es : List Seen) (k : EditorState) (a : Area) (out old new : Option (List ℕ)) → HasWritten look w es k (Shows a true) out old → Appends old new bell
@@ -191,18 +214,26 @@ module _ {S : Type 0} (drawn : S → List SourceAnswer → S → Type 0) (ask : 
       subst (λ (x : EditorState). WentOn u x (going_on_events goes ++ e ∷ [])) (sym takes.1)
       (subst (λ (y : Known S). WentOn y (after_event (look.given k e) k) (going_on_events goes ++ e ∷ [])) (sym same) (further p q k e goes reads (subst IsGoing (sym takes.0) going), refl))
 
-  pub goes_shown : (u : Known S) (z : EditorState) (es : List Seen) (a : Area) (out new : Option (List ℕ)) → WentOn u z es → HasWritten look w es z (Shows a false) out new
-      → GoesOnShown drawn ask look v w u z a out new
-  goes_shown u z es a out new (goes, is) h = record { goes = goes; written = subst (λ t. HasWritten look w t z (Shows a false) out new) (sym is) h }
+  -- An error before anything was done.
+  pub not_begun : (kind : ErrorKind) (old : Option (List ℕ)) → StopsShown drawn ask look v w kind v w old old
+  not_begun kind old = record { stops = stopped unread; written = all_of look w [] w (Due (new_area look.wraps) false) old old (starts look w (new_area look.wraps) old (new_is look.wraps)) }
+
+  pub goes_shown : (u : Known S) (z : EditorState) (es : List Seen) (a : Area) (tab : Bool) (out new : Option (List ℕ)) → WentOn u z es → ends_in_tab es ≡ tab
+      → HasWritten look w es z (Shows a false) out new → GoesOnShown drawn ask look v w u z a tab out new
+  goes_shown u z es a tab out new (goes, is) tabs h = record {
+    goes = goes;
+    tabs = ap ends_in_tab is ∙ tabs;
+    written = subst (λ t. HasWritten look w t z (Shows a false) out new) (sym is) h;
+  }
 
   pub stops_shown : (kind : ErrorKind) (u : Known S) (z : EditorState) (es : List Seen) (out new : Option (List ℕ)) → WentOn u z es → HasWrittenFront look w es z out new
       → StopsShown drawn ask look v w kind u z out new
   stops_shown kind u z es out new (goes, is) h = record { stops = stopped goes; written = subst (λ t. HasWrittenFront look w t z out new) (sym is) h }
 
   -- The line ended, and its area was left.
-  pub ends_shown : (p u : Known S) (k z : EditorState) (e : Seen) (a : Answer) (x : Area) (out old new : Option (List ℕ)) → GoesOnShown drawn ask look v w p k x out old
+  pub ends_shown : (p u : Known S) (k z : EditorState) (e : Seen) (a : Answer) (x : Area) (tab : Bool) (out old new : Option (List ℕ)) → GoesOnShown drawn ask look v w p k x tab out old
       → Reads drawn ask filters.Event p u (Came (Some e)) → TakesAs a (look.given k e) k z → AppendsFront old new (leaving_area x) → LineEndsShown drawn ask look v w a u z out new
-  ends_shown p u k z e a x out old new g reads takes part = record {
+  ends_shown p u k z e a x tab out old new g reads takes part = record {
     ends = record { before = p; line = k; event = e; goes = g.goes; reads = reads; ends = takes.0; left = takes.1 };
     area = x;
     bytes = g.written.bytes;
@@ -214,9 +245,9 @@ module _ {S : Type 0} (drawn : S → List SourceAnswer → S → Type 0) (ask : 
   }
 
   -- Memory was refused for the event that was read next.
-  pub refused_shown : (p q : Known S) (k z : EditorState) (e : Seen) (x : Area) (kind : ErrorKind) (out new : Option (List ℕ)) → GoesOnShown drawn ask look v w p k x out new
+  pub refused_shown : (p q : Known S) (k z : EditorState) (e : Seen) (x : Area) (tab : Bool) (kind : ErrorKind) (out new : Option (List ℕ)) → GoesOnShown drawn ask look v w p k x tab out new
       → Reads drawn ask filters.Event p q (Came (Some e)) → overflows look k e ≡ false → z ≡ k → kind ≡ OutOfMemory → StopsShown drawn ask look v w kind q z out new
-  refused_shown p q k z e x kind out new g reads room same is =
+  refused_shown p q k z e x tab kind out new g reads room same is =
       subst (λ (y : EditorState). StopsShown drawn ask look v w kind q y out new) (sym same) record {
         stops = refused p e g.goes reads room is;
         written = all_of look w (going_on_events g.goes) k (Shows x false) out new g.written;

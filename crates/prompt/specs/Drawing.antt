@@ -1,4 +1,4 @@
--- How the cursor's row is drawn.
+-- What is shown of a line in the cursor's row, and the texts between frames.
 use Rattle.std.specs.Prelude.{◌≡◌, ◌⊎◌, ℕ, ◌+◌, ◌-◌, ◌++◌, ◌∷◌, ◌==◌, Bool, min, nat_le, true, codes, List, [], Option, Some, None, if◌then◌else◌}
 use Rattle.std.specs.Str.{chars}
 use Rattle.std.specs.List.{starts_with}
@@ -12,20 +12,6 @@ use Rattle.screen.specs.Parts.{text_parts}
 use Rattle.screen.specs.Strips.{StripView, IsNextFrame, IsRowFrame, with_row}
 use Rattle.screen.specs.Texts.{replaced, text_columns, within}
 
--- Nothing is known of a row that has all columns of the window but the last one.
-abbrev pub IsUnknown : ℕ → StripView → Type 0
-IsUnknown columns s = (s.width ≡ columns - 1) × (s.drawn ≡ None)
-
--- One frame was written: the row shows the picture with the cursor in this column, and nothing else changes.
-abbrev pub IsDrawn : Picture → ℕ → StripView → StripView → Option (List ℕ) → Option (List ℕ) → Type 0
-IsDrawn p column s t old new =
-    (t ≡ with_row s Enabled p.cells (Some column)) × (ts : List Token) × AppendsReading old new ts × IsRowFrame s Enabled p (Some column) ts
-
--- The same for a frame right behind the last one, which may rely on the cursor's column after that.
-abbrev pub IsNextDrawn : Picture → ℕ → StripView → StripView → Option (List ℕ) → Option (List ℕ) → Type 0
-IsNextDrawn p column s t old new =
-    (t ≡ with_row s Enabled p.cells (Some column)) × (ts : List Token) × AppendsReading old new ts × IsNextFrame s Enabled p (Some column) ts
-
 -- A text is two parts, and another text begins with the second one.
 abbrev pub IsParted : List ℕ → List ℕ → List ℕ → List ℕ → Type 0
 IsParted text front rest after = (text ≡ front ++ rest) × (starts_with (λ a b. a == b) after rest ≡ true)
@@ -38,28 +24,11 @@ column_behind width column text = min (column + text_columns (within (width - co
 abbrev pub inside : ℕ → ℕ → ℕ
 inside width column = if nat_le column (width - 1) then column else width - 1
 
--- The cursor is behind what was printed of the prompt, if it was, and of the line before the cursor, inside the row.
-pub record IsCursor (width : ℕ) (prompt : List ℕ) (line : Split) (column : ℕ) : Type 0 where
-  pub shown : List ℕ
-  pub text : List ℕ
-  pub front : List ℕ
-  pub rest : List ℕ
-  pub after : List ℕ
-  pub prompts : (shown ≡ []) ⊎ (shown ≡ prompt)
-  pub seen : (room : ℕ) × (chars text ≡ seen_text room line)
-  pub behind : chars after ≡ line.after
-  pub parted : IsParted text front rest after
-  pub value : column ≡ inside width (column_behind width (column_behind width 0 (chars shown)) (chars front))
-
 -- What is shown in the prompt's place while an incremental search goes on: its name by its direction, and what it looks
 -- for, in UTF-8.
 abbrev pub search_text : Bool → List ℕ → List ℕ
 search_text is_ahead pattern =
     codes "(" ++ ((if is_ahead then codes "i-search" else codes "reverse-i-search") ++ (codes ")`" ++ (pattern ++ codes "': ")))
-
--- The text that leaves a row: EL if a hint is shown behind the line, then CR and LF, so that the next row begins.
-abbrev pub leaving : Bool → List ℕ
-leaving has_hint = (if has_hint then 0x1B ∷ codes "[K" else []) ++ 0x0D ∷ 0x0A ∷ []
 
 -- The text that erases the window and brings the cursor to its top: ED 2, and CUP to the first row and column.
 abbrev pub clearing : List ℕ

@@ -3,9 +3,9 @@ pub mod Words
 pub mod Completing
 pub mod Asking
 pub mod Lines
+pub mod Shown
 pub mod Drawing
 pub mod Pictures
-pub mod RowFrames
 pub mod Wrapping
 pub mod Frames
 pub mod Written

@@ -1,5 +1,5 @@
 //! Asks for a line, an event at a time.
-ghost use Rattle.std.specs.Prelude.{◌≡◌, ◌<◌, ◌≤◌, [], ℕ, chars, true, false, IfErr, IfOk, IsErrAnd, IsTrue, List, None, OnErr, OnOk, Option, Some, is_some};
+ghost use Rattle.std.specs.Prelude.{◌≡◌, ◌&&◌, ◌<◌, ◌≤◌, [], ℕ, chars, true, false, IfErr, IfOk, IsErrAnd, IsTrue, List, None, OnErr, OnOk, Option, Some, is_some};
 ghost use Rattle.std.specs.IoError.{error_kind};
 ghost use Rattle.std.specs.declared.io.ErrorKind.TheVariants.{InvalidInput};
 ghost use Rattle.crossterm_types.specs.Seen.{Paste, Seen, seen_event};
@@ -11,21 +11,25 @@ ghost use Rattle.prompt.specs.Asking.{LineEnds, StopsAsking, GoesOn, answer_seen
 ghost use Rattle.prompt.specs.Completing as completing;
 ghost use Rattle.prompt.specs.Completing.{as_read, given_by};
 ghost use Rattle.prompt.specs.Prompts as prompts;
-ghost use Rattle.prompt.specs.Frames.{Draws, DrawsFront, area_of};
+ghost use Rattle.prompt.specs.Shown as spec;
+ghost use Rattle.prompt.specs.Shown.{runs_of};
+ghost use Rattle.prompt.specs.Frames.{Draws, DrawsFront, IsSizeOf, area_of};
 ghost use Rattle.prompt.specs.Written as written;
-ghost use Rattle.prompt.specs.Written.{Clears, Due, GoesOnShown, HasWritten, HasWrittenFront, LineEndsShown, Resized, Shows, StopsShown, hint_for, look_of, prompt_for, prompt_or};
+ghost use Rattle.prompt.specs.Written.{Clears, Due, GoesOnShown, HasWritten, HasWrittenFront, HiddenLine, HiddenStops, IsNewPrompt, IsPromptLike, LineEndsShown, Resized, Shows, StopsShown, ends_in_tabs, hidden_limits, line_shown, look_of, masked_shown, plain_look, prompt_runs, search_shown, shown_for};
 ghost use Rattle.prompt.specs.inside.Turning.{IsTaken, Leads, LeadsShown, MayAsk, MayQuery, stage_after};
 
 use crate::drawing::{erase, ring};
 use crate::helpers::Helper;
-use crate::prompts::{has_control, search_text};
+use crate::prompts::search_text;
 use crate::read::Read;
 use crate::rows::Rows;
+use crate::shown::{Shown, have_control};
 use crossterm::event::source::EventSource;
 use crossterm::event::timeout::Clock;
 use crossterm::event::{Event, KeyCode, KeyEventKind};
+use crossterm::style::StyledContent;
 use crossterm::terminal::ModeDevice;
-use line_editor::{EditFault, Editor, Outcome};
+use line_editor::{EditFault, Editor, Limits, Mask, Outcome};
 use own_terminal::Session;
 use std::alloc::{Allocator, Global};
 use std::cell::Cell;
@@ -44,10 +48,10 @@ enum Taken<A: Allocator> {
     Refused,
 }
 
-/// What comes of a turn: the line goes on, or it ends, or there is an error.
+/// What comes of a turn: the line goes on, after Tab or another event. Or it ends, or there is an error.
 #[derive(Drop)]
 enum Turn<A: Allocator> {
-    Going,
+    Going(bool),
     Ended(Read<A>),
     Failed(io::Error),
 }
@@ -61,8 +65,12 @@ enum Turn<A: Allocator> {
 /// ```
 #[derive(Drop)]
 pub struct Prompt<'a, H = ()> {
+    // A text without a style, and styled parts behind it.
     text: &'a str,
+    parts: &'a [StyledContent<&'a str>],
     helper: &'a H,
+    // What is shown in the line's place, if nobody is to read it.
+    mask: Option<Mask>,
     // Whether the terminal is asked for the cursor's place.
     asks: bool,
     // Whether the line is wrapped.
@@ -73,6 +81,22 @@ pub struct Prompt<'a, H = ()> {
     reflows: Cell<bool>,
 }
 
+/// A prompt of a text and the parts behind it, without a helper.
+fn prompt_of<'a>(text: &'a str, parts: &'a [StyledContent<&'a str>]) -> Prompt<'a, ()>
+    ensures { IsNewPrompt (runs_of text.now parts.now) result }
+{
+    Prompt {
+        text,
+        parts,
+        helper: &(),
+        mask: None,
+        asks: true,
+        wraps: true,
+        size: Cell::new(None),
+        reflows: Cell::new(false),
+    }
+}
+
 impl<'a> Prompt<'a, ()> {
     /// A prompt of this text, without a helper.
     ///
@@ -80,18 +104,21 @@ impl<'a> Prompt<'a, ()> {
     /// let prompt = Prompt::new("Name: ");
     /// ```
     pub fn new(text: &'a str) -> Prompt<'a, ()>
-        ensures text { result.text.now ≡ text.now }
-        ensures asks { result.asks ≡ true }
-        ensures wraps { result.wraps ≡ true }
+        ensures { IsNewPrompt (runs_of text.now []) result }
     {
-        Prompt {
-            text,
-            helper: &(),
-            asks: true,
-            wraps: true,
-            size: Cell::new(None),
-            reflows: Cell::new(false),
-        }
+        prompt_of(text, &[])
+    }
+
+    /// A prompt of several parts, each in its style, without a helper.
+    ///
+    /// ```
+    /// let parts = ["~/src".blue(), "> ".bold()];
+    /// let prompt = Prompt::styled(&parts);
+    /// ```
+    pub fn styled(parts: &'a [StyledContent<&'a str>]) -> Prompt<'a, ()>
+        ensures { IsNewPrompt (runs_of [] parts.now) result }
+    {
+        prompt_of("", parts)
     }
 }
 
@@ -103,14 +130,14 @@ impl<'a, H> Prompt<'a, H> {
     /// let prompt = Prompt::new("> ").with_helper(&words);
     /// ```
     pub fn with_helper<G>(self, helper: &'a G) -> Prompt<'a, G>
-        ensures text { result.text.now ≡ self.entry.text.now }
+        ensures same { IsPromptLike self.entry result }
         ensures helper { result.helper.now ≡ helper.now }
-        ensures asks { result.asks ≡ self.entry.asks }
-        ensures wraps { result.wraps ≡ self.entry.wraps }
     {
         Prompt {
             text: self.text,
+            parts: self.parts,
             helper,
+            mask: self.mask,
             asks: self.asks,
             wraps: self.wraps,
             size: Cell::new(None),
@@ -124,25 +151,32 @@ impl<'a, H> Prompt<'a, H> {
     /// let prompt = Prompt::new("> ").without_questions();
     /// ```
     pub fn without_questions(mut self) -> Prompt<'a, H>
-        ensures text { result.text.now ≡ self.entry.text.now }
-        ensures helper { result.helper.now ≡ self.entry.helper.now }
-        ensures asks { result.asks ≡ false }
-        ensures wraps { result.wraps ≡ self.entry.wraps }
+        ensures { result ≡ record self.entry { asks = false } }
     {
         self.asks = false;
         self
     }
 
-    /// The same prompt, which shows as much of the line as one row has room for: a longer line scrolls in it.
+    /// The same prompt for a line that nobody is to read, for who reads events by itself: this is shown in the line's place, and neither a hint nor
+    /// what is searched for. `read_hidden` also keeps the line out of the history.
+    ///
+    /// ```
+    /// let prompt = Prompt::new("Password: ").with_mask(Mask::Stars);
+    /// ```
+    pub fn with_mask(mut self, mask: Mask) -> Prompt<'a, H>
+        ensures { result ≡ record self.entry { mask = Some mask } }
+    {
+        self.mask = Some(mask);
+        self
+    }
+
+    /// The same prompt, which shows as much of the line as one row has room for: a longer line scrolls in it. No candidates are listed below it.
     ///
     /// ```
     /// let prompt = Prompt::new("Name: ").in_one_row();
     /// ```
     pub fn in_one_row(mut self) -> Prompt<'a, H>
-        ensures text { result.text.now ≡ self.entry.text.now }
-        ensures helper { result.helper.now ≡ self.entry.helper.now }
-        ensures asks { result.asks ≡ self.entry.asks }
-        ensures wraps { result.wraps ≡ false }
+        ensures { result ≡ record self.entry { wraps = false } }
     {
         self.wraps = false;
         self
@@ -167,6 +201,13 @@ fn is_tab<B: Allocator>(event: &Event<B>) -> bool
         | Event::Paste(_)
         | Event::Resize(..) => false,
     }
+}
+
+/// Whether an event is a second Tab, if it is Tab or not and the one before it was or wasn't.
+fn is_second(tab: bool, tabbed: bool) -> bool
+    ensures { result ≡ (tab && tabbed) }
+{
+    tab && tabbed
 }
 
 /// Whether an event reports another size of the window.
@@ -236,33 +277,106 @@ fn show_search<W: Write, A: Allocator>(
     pattern: &str,
     rows: &mut Rows,
 ) -> io::Result<()>
-    ensures shows { OnOk result (Draws (prompt_or (Some (chars pattern.now)) (is_ahead editor.now.last) []) editor.now.line []
-        (area_of rows.old) (area_of rows.new) (W.contents out.old) (W.contents out.new)) }
-    ensures stops { OnErr result (DrawsFront (prompt_or (Some (chars pattern.now)) (is_ahead editor.now.last) []) editor.now.line []
-        (area_of rows.old) (W.contents out.old) (W.contents out.new)) }
+    ensures shows { OnOk result (Draws (search_shown (chars pattern.now) editor.now) (area_of rows.old) (area_of rows.new) (W.contents out.old) (W.contents out.new)) }
+    ensures stops { OnErr result (DrawsFront (search_shown (chars pattern.now) editor.now) (area_of rows.old) (W.contents out.old) (W.contents out.new)) }
+    ensures size { IsSizeOf (area_of rows.old) (area_of rows.new) }
     ensures asked { rows.new.is_asked ≡ rows.old.is_asked }
 {
     let text = search_text(rows.alloc, pattern, editor.is_ahead())?;
-    rows.draw_next(out, text.as_str(), editor.line(), "")
+    rows.draw_next(out, &Shown::new(text.as_str(), editor.line()))
 }
 
-/// Shows the line.
-fn show<W: Write, A: Allocator, H: Helper>(
+/// Shows the line behind the prompt with its hint, or with the candidates below it.
+fn show_line<W: Write, A: Allocator, H: Helper>(
     out: &mut W,
     editor: &Editor<A>,
     prompt: &Prompt<'_, H>,
     rows: &mut Rows,
+    lists: bool,
 ) -> io::Result<()>
-    ensures shows { OnOk result (Draws (prompt_for prompt.now.text.now editor.now) editor.now.line (hint_for (H.hints prompt.now.helper.now) editor.now)
+    ensures shows { OnOk result (Draws (line_shown (look_of as_read (H.hints prompt.now.helper.now) (H.candidates prompt.now.helper.now) prompt.now) lists editor.now)
         (area_of rows.old) (area_of rows.new) (W.contents out.old) (W.contents out.new)) }
-    ensures stops { OnErr result (DrawsFront (prompt_for prompt.now.text.now editor.now) editor.now.line (hint_for (H.hints prompt.now.helper.now) editor.now)
+    ensures stops { OnErr result (DrawsFront (line_shown (look_of as_read (H.hints prompt.now.helper.now) (H.candidates prompt.now.helper.now) prompt.now) lists editor.now)
         (area_of rows.old) (W.contents out.old) (W.contents out.new)) }
+    ensures size { IsSizeOf (area_of rows.old) (area_of rows.new) }
     ensures asked { rows.new.is_asked ≡ rows.old.is_asked }
 {
     let line = editor.line();
-    match editor.pattern() {
-        None => rows.draw_next(out, prompt.text, line, prompt.helper.hint(line.text())),
-        Some(pattern) => show_search(out, editor, pattern, rows),
+    let mut names = Vec::new(rows.alloc);
+    if lists {
+        names = prompt
+            .helper
+            .candidates(rows.alloc, line.before(), line.after())?;
+    }
+    let shown = Shown {
+        text: prompt.text,
+        parts: prompt.parts,
+        line,
+        hint: prompt.helper.hint(line.text()),
+        candidates: &names,
+    };
+    rows.draw_next(out, &shown)
+}
+
+/// Shows what is in the place of a line that nobody is to read.
+fn show_masked<W: Write, A: Allocator, H>(
+    out: &mut W,
+    editor: &Editor<A>,
+    prompt: &Prompt<'_, H>,
+    mask: Mask,
+    rows: &mut Rows,
+) -> io::Result<()>
+    ensures shows { OnOk result (Draws (masked_shown (prompt_runs prompt.now) mask editor.now) (area_of rows.old) (area_of rows.new) (W.contents out.old) (W.contents out.new)) }
+    ensures stops { OnErr result (DrawsFront (masked_shown (prompt_runs prompt.now) mask editor.now) (area_of rows.old) (W.contents out.old) (W.contents out.new)) }
+    ensures size { IsSizeOf (area_of rows.old) (area_of rows.new) }
+    ensures asked { rows.new.is_asked ≡ rows.old.is_asked }
+{
+    let line = editor.line().masked(rows.alloc, mask)?;
+    let shown = Shown {
+        text: prompt.text,
+        parts: prompt.parts,
+        line: &line,
+        hint: "",
+        candidates: &[],
+    };
+    rows.draw_next(out, &shown)
+}
+
+impl<H: Helper> Prompt<'_, H> {
+    /// Shows an editor's line, as `read_line` does, for who reads events by itself. The helper's candidates are listed below it, or not.
+    ///
+    /// Nothing but a bell was written since the last frame of these rows, or `Rows::forget_cursor` says that it was.
+    ///
+    /// # Errors
+    ///
+    /// Those of `Rows::draw_next`.
+    ///
+    /// ```
+    /// let prompt = Prompt::new("> ");
+    /// let mut rows = Rows::new(alloc, (80, 24))?;
+    /// prompt.show(&mut out, &editor, &mut rows, false)?;
+    /// ```
+    pub fn show<W: Write, A: Allocator>(
+        &self,
+        out: &mut W,
+        editor: &Editor<A>,
+        rows: &mut Rows,
+        lists: bool,
+    ) -> io::Result<()>
+        ensures shows { OnOk result (Draws (shown_for (look_of as_read (H.hints self.now.helper.now) (H.candidates self.now.helper.now) self.now) lists editor.now)
+            (area_of rows.old) (area_of rows.new) (W.contents out.old) (W.contents out.new)) }
+        ensures stops { OnErr result (DrawsFront (shown_for (look_of as_read (H.hints self.now.helper.now) (H.candidates self.now.helper.now) self.now) lists editor.now)
+            (area_of rows.old) (W.contents out.old) (W.contents out.new)) }
+        ensures asked { rows.new.is_asked ≡ rows.old.is_asked }
+        ensures size { IsSizeOf (area_of rows.old) (area_of rows.new) }
+    {
+        if let Some(mask) = self.mask {
+            return show_masked(out, editor, self, mask, rows);
+        }
+        match editor.pattern() {
+            None => show_line(out, editor, self, rows, lists),
+            Some(pattern) => show_search(out, editor, pattern, rows),
+        }
     }
 }
 
@@ -351,12 +465,13 @@ fn show_anew<
     editor: &Editor<A>,
     prompt: &Prompt<'_, H>,
     rows: &mut Rows,
+    lists: bool,
 ) -> io::Result<()>
     ensures asked { MayAsk S.drawn S.asked (knows tty.old.pass) (knows tty.new.pass) }
     ensures shows { (given : EditorState → Seen → Seen) (w : EditorState) (es : List Seen) (out : Option (List ℕ)) → (rows.old.is_asked ≡ true → prompt.now.asks ≡ true)
-        → HasWritten (look_of given (H.hints prompt.now.helper.now) prompt.now.text.now prompt.now.asks prompt.now.wraps) w es editor.now (Resized (area_of rows.old) false) out (W.contents tty.old.out) → OnOk result (HasWritten (look_of given (H.hints prompt.now.helper.now) prompt.now.text.now prompt.now.asks prompt.now.wraps) w es editor.now (Shows (area_of rows.new) false) out (W.contents tty.new.out)) }
+        → ends_in_tabs es ≡ lists → HasWritten (look_of given (H.hints prompt.now.helper.now) (H.candidates prompt.now.helper.now) prompt.now) w es editor.now (Resized (area_of rows.old) false) out (W.contents tty.old.out) → OnOk result (HasWritten (look_of given (H.hints prompt.now.helper.now) (H.candidates prompt.now.helper.now) prompt.now) w es editor.now (Shows (area_of rows.new) false) out (W.contents tty.new.out)) }
     ensures stops { (given : EditorState → Seen → Seen) (w : EditorState) (es : List Seen) (out : Option (List ℕ)) → (rows.old.is_asked ≡ true → prompt.now.asks ≡ true)
-        → HasWritten (look_of given (H.hints prompt.now.helper.now) prompt.now.text.now prompt.now.asks prompt.now.wraps) w es editor.now (Resized (area_of rows.old) false) out (W.contents tty.old.out) → OnErr result (HasWrittenFront (look_of given (H.hints prompt.now.helper.now) prompt.now.text.now prompt.now.asks prompt.now.wraps) w es editor.now out (W.contents tty.new.out)) }
+        → ends_in_tabs es ≡ lists → HasWritten (look_of given (H.hints prompt.now.helper.now) (H.candidates prompt.now.helper.now) prompt.now) w es editor.now (Resized (area_of rows.old) false) out (W.contents tty.old.out) → OnErr result (HasWrittenFront (look_of given (H.hints prompt.now.helper.now) (H.candidates prompt.now.helper.now) prompt.now) w es editor.now out (W.contents tty.new.out)) }
     ensures fewer { rows.new.is_asked ≡ true → rows.old.is_asked ≡ true }
     ensures features { tty.new.features ≡ tty.old.features }
     ensures mode { IsTrue (is_some tty.old.term.prior) → tty.new.term.prior ≡ tty.old.term.prior }
@@ -373,7 +488,7 @@ fn show_anew<
     prompt.reflows.set(rows.reflows);
     rows.resize(size);
     match erase(&mut tty.out, above) {
-        Ok(()) => show(&mut tty.out, editor, prompt, rows),
+        Ok(()) => prompt.show(&mut tty.out, editor, rows, lists),
         Err(error) => Err(error),
     }
 }
@@ -384,15 +499,16 @@ fn show_at_top<W: Write, A: Allocator, H: Helper>(
     editor: &Editor<A>,
     prompt: &Prompt<'_, H>,
     rows: &mut Rows,
+    lists: bool,
 ) -> io::Result<()>
     ensures shows { (given : EditorState → Seen → Seen) (w : EditorState) (es : List Seen) (from : Option (List ℕ))
-        → HasWritten (look_of given (H.hints prompt.now.helper.now) prompt.now.text.now prompt.now.asks prompt.now.wraps) w es editor.now (Clears (area_of rows.old)) from (W.contents out.old) → OnOk result (HasWritten (look_of given (H.hints prompt.now.helper.now) prompt.now.text.now prompt.now.asks prompt.now.wraps) w es editor.now (Shows (area_of rows.new) false) from (W.contents out.new)) }
+        → ends_in_tabs es ≡ lists → HasWritten (look_of given (H.hints prompt.now.helper.now) (H.candidates prompt.now.helper.now) prompt.now) w es editor.now (Clears (area_of rows.old)) from (W.contents out.old) → OnOk result (HasWritten (look_of given (H.hints prompt.now.helper.now) (H.candidates prompt.now.helper.now) prompt.now) w es editor.now (Shows (area_of rows.new) false) from (W.contents out.new)) }
     ensures stops { (given : EditorState → Seen → Seen) (w : EditorState) (es : List Seen) (from : Option (List ℕ))
-        → HasWritten (look_of given (H.hints prompt.now.helper.now) prompt.now.text.now prompt.now.asks prompt.now.wraps) w es editor.now (Clears (area_of rows.old)) from (W.contents out.old) → OnErr result (HasWrittenFront (look_of given (H.hints prompt.now.helper.now) prompt.now.text.now prompt.now.asks prompt.now.wraps) w es editor.now from (W.contents out.new)) }
+        → ends_in_tabs es ≡ lists → HasWritten (look_of given (H.hints prompt.now.helper.now) (H.candidates prompt.now.helper.now) prompt.now) w es editor.now (Clears (area_of rows.old)) from (W.contents out.old) → OnErr result (HasWrittenFront (look_of given (H.hints prompt.now.helper.now) (H.candidates prompt.now.helper.now) prompt.now) w es editor.now from (W.contents out.new)) }
     ensures asked { rows.new.is_asked ≡ rows.old.is_asked }
 {
     match rows.clear(out) {
-        Ok(()) => show(out, editor, prompt, rows),
+        Ok(()) => prompt.show(out, editor, rows, lists),
         Err(error) => Err(error),
     }
 }
@@ -403,14 +519,15 @@ fn show_and_ring<W: Write, A: Allocator, H: Helper>(
     editor: &Editor<A>,
     prompt: &Prompt<'_, H>,
     rows: &mut Rows,
+    lists: bool,
 ) -> io::Result<()>
     ensures shows { (given : EditorState → Seen → Seen) (w : EditorState) (es : List Seen) (from : Option (List ℕ))
-        → HasWritten (look_of given (H.hints prompt.now.helper.now) prompt.now.text.now prompt.now.asks prompt.now.wraps) w es editor.now (Due (area_of rows.old) true) from (W.contents out.old) → OnOk result (HasWritten (look_of given (H.hints prompt.now.helper.now) prompt.now.text.now prompt.now.asks prompt.now.wraps) w es editor.now (Shows (area_of rows.new) false) from (W.contents out.new)) }
+        → ends_in_tabs es ≡ lists → HasWritten (look_of given (H.hints prompt.now.helper.now) (H.candidates prompt.now.helper.now) prompt.now) w es editor.now (Due (area_of rows.old) true) from (W.contents out.old) → OnOk result (HasWritten (look_of given (H.hints prompt.now.helper.now) (H.candidates prompt.now.helper.now) prompt.now) w es editor.now (Shows (area_of rows.new) false) from (W.contents out.new)) }
     ensures stops { (given : EditorState → Seen → Seen) (w : EditorState) (es : List Seen) (from : Option (List ℕ))
-        → HasWritten (look_of given (H.hints prompt.now.helper.now) prompt.now.text.now prompt.now.asks prompt.now.wraps) w es editor.now (Due (area_of rows.old) true) from (W.contents out.old) → OnErr result (HasWrittenFront (look_of given (H.hints prompt.now.helper.now) prompt.now.text.now prompt.now.asks prompt.now.wraps) w es editor.now from (W.contents out.new)) }
+        → ends_in_tabs es ≡ lists → HasWritten (look_of given (H.hints prompt.now.helper.now) (H.candidates prompt.now.helper.now) prompt.now) w es editor.now (Due (area_of rows.old) true) from (W.contents out.old) → OnErr result (HasWrittenFront (look_of given (H.hints prompt.now.helper.now) (H.candidates prompt.now.helper.now) prompt.now) w es editor.now from (W.contents out.new)) }
     ensures asked { rows.new.is_asked ≡ rows.old.is_asked }
 {
-    match show(out, editor, prompt, rows) {
+    match prompt.show(out, editor, rows, lists) {
         Ok(()) => ring(out),
         Err(error) => Err(error),
     }
@@ -432,24 +549,25 @@ fn show_after<
     prompt: &Prompt<'_, H>,
     event: &Event,
     rows: &mut Rows,
+    lists: bool,
 ) -> io::Result<()>
     ensures asked { MayAsk S.drawn S.asked (knows tty.old.pass) (knows tty.new.pass) }
     ensures shows { (given : EditorState → Seen → Seen) (w : EditorState) (es : List Seen) (out : Option (List ℕ)) → (rows.old.is_asked ≡ true → prompt.now.asks ≡ true)
-        → HasWritten (look_of given (H.hints prompt.now.helper.now) prompt.now.text.now prompt.now.asks prompt.now.wraps) w es editor.now (stage_after (seen_event event.now) (area_of rows.old)) out (W.contents tty.old.out) → OnOk result (HasWritten (look_of given (H.hints prompt.now.helper.now) prompt.now.text.now prompt.now.asks prompt.now.wraps) w es editor.now (Shows (area_of rows.new) false) out (W.contents tty.new.out)) }
+        → ends_in_tabs es ≡ lists → HasWritten (look_of given (H.hints prompt.now.helper.now) (H.candidates prompt.now.helper.now) prompt.now) w es editor.now (stage_after (seen_event event.now) (area_of rows.old)) out (W.contents tty.old.out) → OnOk result (HasWritten (look_of given (H.hints prompt.now.helper.now) (H.candidates prompt.now.helper.now) prompt.now) w es editor.now (Shows (area_of rows.new) false) out (W.contents tty.new.out)) }
     ensures stops { (given : EditorState → Seen → Seen) (w : EditorState) (es : List Seen) (out : Option (List ℕ)) → (rows.old.is_asked ≡ true → prompt.now.asks ≡ true)
-        → HasWritten (look_of given (H.hints prompt.now.helper.now) prompt.now.text.now prompt.now.asks prompt.now.wraps) w es editor.now (stage_after (seen_event event.now) (area_of rows.old)) out (W.contents tty.old.out) → OnErr result (HasWrittenFront (look_of given (H.hints prompt.now.helper.now) prompt.now.text.now prompt.now.asks prompt.now.wraps) w es editor.now out (W.contents tty.new.out)) }
+        → ends_in_tabs es ≡ lists → HasWritten (look_of given (H.hints prompt.now.helper.now) (H.candidates prompt.now.helper.now) prompt.now) w es editor.now (stage_after (seen_event event.now) (area_of rows.old)) out (W.contents tty.old.out) → OnErr result (HasWrittenFront (look_of given (H.hints prompt.now.helper.now) (H.candidates prompt.now.helper.now) prompt.now) w es editor.now out (W.contents tty.new.out)) }
     ensures fewer { rows.new.is_asked ≡ true → rows.old.is_asked ≡ true }
     ensures features { tty.new.features ≡ tty.old.features }
     ensures mode { IsTrue (is_some tty.old.term.prior) → tty.new.term.prior ≡ tty.old.term.prior }
 {
     if is_resize(event) {
-        show_anew(rt, tty, editor, prompt, rows)
+        show_anew(rt, tty, editor, prompt, rows, lists)
     } else {
-        show(&mut tty.out, editor, prompt, rows)
+        prompt.show(&mut tty.out, editor, rows, lists)
     }
 }
 
-/// Reads an event and gives it to the editor.
+/// Reads an event and gives it to the editor. The event before it was Tab, or not.
 fn take_turn<
     S: EventSource<Global>,
     D: ModeDevice,
@@ -464,12 +582,13 @@ fn take_turn<
     editor: &mut Editor<A>,
     prompt: &Prompt<'_, H>,
     rows: &mut Rows,
+    tabbed: bool,
 ) -> Turn<A>
     ensures leads { (v : Known S) (w : EditorState) → GoesOn S.drawn S.asked (given_by (H.completes prompt.now.helper.now)) v w (knows tty.old.pass) editor.old
         → Leads S.drawn S.asked (given_by (H.completes prompt.now.helper.now)) v w result (knows tty.new.pass) editor.new }
     ensures written { (v : Known S) (w : EditorState) (out : Option (List ℕ)) → (rows.old.is_asked ≡ true → prompt.now.asks ≡ true)
-        → GoesOnShown S.drawn S.asked (look_of (given_by (H.completes prompt.now.helper.now)) (H.hints prompt.now.helper.now) prompt.now.text.now prompt.now.asks prompt.now.wraps) v w (knows tty.old.pass) editor.old (area_of rows.old) out (W.contents tty.old.out)
-        → LeadsShown S.drawn S.asked (look_of (given_by (H.completes prompt.now.helper.now)) (H.hints prompt.now.helper.now) prompt.now.text.now prompt.now.asks prompt.now.wraps) v w result (knows tty.new.pass) editor.new (area_of rows.new) out (W.contents tty.new.out) }
+        → GoesOnShown S.drawn S.asked (look_of (given_by (H.completes prompt.now.helper.now)) (H.hints prompt.now.helper.now) (H.candidates prompt.now.helper.now) prompt.now) v w (knows tty.old.pass) editor.old (area_of rows.old) tabbed out (W.contents tty.old.out)
+        → LeadsShown S.drawn S.asked (look_of (given_by (H.completes prompt.now.helper.now)) (H.hints prompt.now.helper.now) (H.candidates prompt.now.helper.now) prompt.now) v w result (knows tty.new.pass) editor.new (area_of rows.new) out (W.contents tty.new.out) }
     ensures fewer { rows.new.is_asked ≡ true → rows.old.is_asked ≡ true }
     ensures features { tty.new.features ≡ tty.old.features }
     ensures mode { IsTrue (is_some tty.old.term.prior) → tty.new.term.prior ≡ tty.old.term.prior }
@@ -478,21 +597,23 @@ fn take_turn<
         Ok(event) => event,
         Err(error) => return Turn::Failed(error),
     };
+    let tab = is_tab(&event);
+    let lists = is_second(tab, tabbed);
     match take(editor, prompt.helper, &event) {
-        Taken::Going => match show_after(rt, tty, editor, prompt, &event, rows) {
-            Ok(()) => Turn::Going,
+        Taken::Going => match show_after(rt, tty, editor, prompt, &event, rows, lists) {
+            Ok(()) => Turn::Going(tab),
             Err(error) => Turn::Failed(error),
         },
-        Taken::Clear => match show_at_top(&mut tty.out, editor, prompt, rows) {
-            Ok(()) => Turn::Going,
+        Taken::Clear => match show_at_top(&mut tty.out, editor, prompt, rows, lists) {
+            Ok(()) => Turn::Going(tab),
             Err(error) => Turn::Failed(error),
         },
-        Taken::Ring => match show_and_ring(&mut tty.out, editor, prompt, rows) {
-            Ok(()) => Turn::Going,
+        Taken::Ring => match show_and_ring(&mut tty.out, editor, prompt, rows, lists) {
+            Ok(()) => Turn::Going(tab),
             Err(error) => Turn::Failed(error),
         },
         Taken::TooLong => match ring(&mut tty.out) {
-            Ok(()) => Turn::Going,
+            Ok(()) => Turn::Going(tab),
             Err(error) => Turn::Failed(error),
         },
         Taken::Ended(read) => {
@@ -534,8 +655,8 @@ fn begin<
     H: Helper,
 >(tty: &mut Session<S, D, W, C>, editor: &Editor<A>, prompt: &Prompt<'_, H>) -> io::Result<Rows>
     ensures pass { tty.new.pass ≡ tty.old.pass }
-    ensures shows { IfOk result (λ rows. (given : EditorState → Seen → Seen) → HasWritten (look_of given (H.hints prompt.now.helper.now) prompt.now.text.now prompt.now.asks prompt.now.wraps) editor.now [] editor.now (Shows (area_of rows) false) (W.contents tty.old.out) (W.contents tty.new.out)) }
-    ensures stops { OnErr result ((given : EditorState → Seen → Seen) → HasWrittenFront (look_of given (H.hints prompt.now.helper.now) prompt.now.text.now prompt.now.asks prompt.now.wraps) editor.now [] editor.now (W.contents tty.old.out) (W.contents tty.new.out)) }
+    ensures shows { IfOk result (λ rows. (given : EditorState → Seen → Seen) → HasWritten (look_of given (H.hints prompt.now.helper.now) (H.candidates prompt.now.helper.now) prompt.now) editor.now [] editor.now (Shows (area_of rows) false) (W.contents tty.old.out) (W.contents tty.new.out)) }
+    ensures stops { OnErr result ((given : EditorState → Seen → Seen) → HasWrittenFront (look_of given (H.hints prompt.now.helper.now) (H.candidates prompt.now.helper.now) prompt.now) editor.now [] editor.now (W.contents tty.old.out) (W.contents tty.new.out)) }
     ensures asks { IfOk result (λ rows. rows.is_asked ≡ prompt.now.asks) }
     ensures features { tty.new.features ≡ tty.old.features }
     ensures already { IsTrue (is_some tty.old.term.prior) → tty.new.term.prior ≡ tty.old.term.prior }
@@ -552,9 +673,24 @@ fn begin<
     let mut rows = Rows::of(tty.alloc, size, prompt.wraps)?;
     rows.is_asked = prompt.asks;
     rows.reflows = prompt.reflows.get();
-    match show(&mut tty.out, editor, prompt, &mut rows) {
+    match prompt.show(&mut tty.out, editor, &mut rows, false) {
         Ok(()) => Ok(rows),
         Err(error) => Err(error),
+    }
+}
+
+/// The limits of an editor that remembers no line.
+fn hidden_limits() -> Limits
+    ensures { result ≡ hidden_limits }
+{
+    Limits {
+        bytes: 65_536,
+        lines: 0,
+        steps: 1000,
+        kills: 60,
+        ignore_dups: false,
+        ignore_space: false,
+        multiline: false,
     }
 }
 
@@ -576,16 +712,17 @@ fn go_on<
 ) -> io::Result<Read<A>>
     ensures line { IfOk result (λ read. LineEnds S.drawn S.asked (given_by (H.completes prompt.now.helper.now)) (knows tty.old.pass) editor.old (answer_seen read) (knows tty.new.pass) editor.new) }
     ensures err { IfErr result (λ error. StopsAsking S.drawn S.asked (given_by (H.completes prompt.now.helper.now)) (knows tty.old.pass) editor.old (error_kind error) (knows tty.new.pass) editor.new) }
-    ensures written { IfOk result (λ read. (out : Option (List ℕ)) → (rows.is_asked ≡ true → prompt.now.asks ≡ true) → HasWritten (look_of (given_by (H.completes prompt.now.helper.now)) (H.hints prompt.now.helper.now) prompt.now.text.now prompt.now.asks prompt.now.wraps) editor.old [] editor.old (Shows (area_of rows) false) out (W.contents tty.old.out)
-        → LineEndsShown S.drawn S.asked (look_of (given_by (H.completes prompt.now.helper.now)) (H.hints prompt.now.helper.now) prompt.now.text.now prompt.now.asks prompt.now.wraps) (knows tty.old.pass) editor.old (answer_seen read) (knows tty.new.pass) editor.new out (W.contents tty.new.out)) }
-    ensures cut { IfErr result (λ error. (out : Option (List ℕ)) → (rows.is_asked ≡ true → prompt.now.asks ≡ true) → HasWritten (look_of (given_by (H.completes prompt.now.helper.now)) (H.hints prompt.now.helper.now) prompt.now.text.now prompt.now.asks prompt.now.wraps) editor.old [] editor.old (Shows (area_of rows) false) out (W.contents tty.old.out)
-        → StopsShown S.drawn S.asked (look_of (given_by (H.completes prompt.now.helper.now)) (H.hints prompt.now.helper.now) prompt.now.text.now prompt.now.asks prompt.now.wraps) (knows tty.old.pass) editor.old (error_kind error) (knows tty.new.pass) editor.new out (W.contents tty.new.out)) }
+    ensures written { IfOk result (λ read. (out : Option (List ℕ)) → (rows.is_asked ≡ true → prompt.now.asks ≡ true) → HasWritten (look_of (given_by (H.completes prompt.now.helper.now)) (H.hints prompt.now.helper.now) (H.candidates prompt.now.helper.now) prompt.now) editor.old [] editor.old (Shows (area_of rows) false) out (W.contents tty.old.out)
+        → LineEndsShown S.drawn S.asked (look_of (given_by (H.completes prompt.now.helper.now)) (H.hints prompt.now.helper.now) (H.candidates prompt.now.helper.now) prompt.now) (knows tty.old.pass) editor.old (answer_seen read) (knows tty.new.pass) editor.new out (W.contents tty.new.out)) }
+    ensures cut { IfErr result (λ error. (out : Option (List ℕ)) → (rows.is_asked ≡ true → prompt.now.asks ≡ true) → HasWritten (look_of (given_by (H.completes prompt.now.helper.now)) (H.hints prompt.now.helper.now) (H.candidates prompt.now.helper.now) prompt.now) editor.old [] editor.old (Shows (area_of rows) false) out (W.contents tty.old.out)
+        → StopsShown S.drawn S.asked (look_of (given_by (H.completes prompt.now.helper.now)) (H.hints prompt.now.helper.now) (H.candidates prompt.now.helper.now) prompt.now) (knows tty.old.pass) editor.old (error_kind error) (knows tty.new.pass) editor.new out (W.contents tty.new.out)) }
     ensures features { tty.new.features ≡ tty.old.features }
     ensures mode { IsTrue (is_some tty.old.term.prior) → tty.new.term.prior ≡ tty.old.term.prior }
 {
+    let mut tabbed = false;
     for _ in rt.forever() {
-        match take_turn(rt, tty, editor, prompt, &mut rows) {
-            Turn::Going => {}
+        match take_turn(rt, tty, editor, prompt, &mut rows, tabbed) {
+            Turn::Going(tab) => tabbed = tab,
             Turn::Ended(read) => return Ok(read),
             Turn::Failed(error) => return Err(error),
         }
@@ -600,9 +737,10 @@ impl<H: Helper> Prompt<'_, H> {
     /// line is shown anew, in as many rows as it takes. A text that is too long for the line rings the bell, and the line goes on. Then the cursor
     /// goes to the start of the row below the line.
     ///
-    /// At Tab without a modifier the helper's text is pasted, if it has one for the line. Its hint is shown behind the line. Ctrl-L clears the
-    /// window, and the line goes on at its top (`clear-screen`): so a row that another program wrote over is whole again. While an incremental
-    /// search goes on, what it looks for is shown in the prompt's place, and the bell rings at what isn't found.
+    /// At Tab without a modifier the helper's text is pasted, if it has one for the line. A second Tab lists the helper's candidates in columns
+    /// below the line, until another event comes. The helper's hint is shown behind the line. Ctrl-L clears the window, and the line goes
+    /// on at its top (`clear-screen`): so a row that another program wrote over is whole again. While an incremental search goes on, what it looks
+    /// for is shown in the prompt's place, and the bell rings at what isn't found.
     ///
     /// So a frame of the line is written first, and one after each event. Nothing else is but the bell, a clearing, what a resize needs, and at
     /// last what leaves the row.
@@ -638,21 +776,73 @@ impl<H: Helper> Prompt<'_, H> {
     >(&self, rt: &R, tty: &mut Session<S, D, W, C>, editor: &mut Editor<A>) -> io::Result<Read<A>>
         ensures line { IfOk result (λ read. LineEnds S.drawn S.asked (given_by (H.completes self.now.helper.now)) (knows tty.old.pass) editor.old (answer_seen read) (knows tty.new.pass) editor.new) }
         ensures err { IfErr result (λ error. StopsAsking S.drawn S.asked (given_by (H.completes self.now.helper.now)) (knows tty.old.pass) editor.old (error_kind error) (knows tty.new.pass) editor.new) }
-        ensures written { IfOk result (λ read. LineEndsShown S.drawn S.asked (look_of (given_by (H.completes self.now.helper.now)) (H.hints self.now.helper.now) self.now.text.now self.now.asks self.now.wraps) (knows tty.old.pass) editor.old (answer_seen read) (knows tty.new.pass) editor.new (W.contents tty.old.out) (W.contents tty.new.out)) }
-        ensures cut { IfErr result (λ error. StopsShown S.drawn S.asked (look_of (given_by (H.completes self.now.helper.now)) (H.hints self.now.helper.now) self.now.text.now self.now.asks self.now.wraps) (knows tty.old.pass) editor.old (error_kind error) (knows tty.new.pass) editor.new (W.contents tty.old.out) (W.contents tty.new.out)) }
-        ensures refused { prompts.has_control (chars self.now.text.now) ≡ true → IsErrAnd result (λ error. error_kind error ≡ InvalidInput) × (tty.new ≡ tty.old) × (editor.new ≡ editor.old) }
-        ensures allowed { OnOk result (prompts.has_control (chars self.now.text.now) ≡ false) }
+        ensures written { IfOk result (λ read. LineEndsShown S.drawn S.asked (look_of (given_by (H.completes self.now.helper.now)) (H.hints self.now.helper.now) (H.candidates self.now.helper.now) self.now) (knows tty.old.pass) editor.old (answer_seen read) (knows tty.new.pass) editor.new (W.contents tty.old.out) (W.contents tty.new.out)) }
+        ensures cut { IfErr result (λ error. StopsShown S.drawn S.asked (look_of (given_by (H.completes self.now.helper.now)) (H.hints self.now.helper.now) (H.candidates self.now.helper.now) self.now) (knows tty.old.pass) editor.old (error_kind error) (knows tty.new.pass) editor.new (W.contents tty.old.out) (W.contents tty.new.out)) }
+        ensures refused { spec.have_control (prompt_runs self.now) ≡ true → IsErrAnd result (λ error. error_kind error ≡ InvalidInput) × (tty.new ≡ tty.old) × (editor.new ≡ editor.old) }
+        ensures allowed { OnOk result (spec.have_control (prompt_runs self.now) ≡ false) }
         ensures features { tty.new.features ≡ tty.old.features }
         ensures already { IsTrue (is_some tty.old.term.prior) → tty.new.term.prior ≡ tty.old.term.prior }
         ensures raw { OnOk result (tty.old.term.prior ≡ None → tty.new.term.prior ≡ Some (D.current tty.old.term.device)) }
     {
-        if has_control(self.text) {
+        if have_control(self.text, self.parts) {
             return Err(io::Error::from(ErrorKind::InvalidInput));
         }
         match begin(tty, editor, self) {
             Ok(rows) => go_on(rt, tty, editor, self, rows),
             Err(error) => Err(error),
         }
+    }
+}
+
+impl<H> Prompt<'_, H> {
+    /// Asks for a line that nobody is to read, as a password: as `read_line` does, but nothing is shown of the line, or a star for each character.
+    ///
+    /// The line is in no history, and it can't be undone or yanked once it has ended: it is typed in an editor of its own, whose memory is freed.
+    /// The helper doesn't see it, no search is shown, and what was typed before an error is lost.
+    ///
+    /// # Errors
+    ///
+    /// Those of `read_line`.
+    ///
+    /// ```
+    /// let prompt = Prompt::new("Password: ");
+    /// match prompt.read_hidden(rt, &mut tty, Mask::Stars)? {
+    ///     Read::Line(password) => write!(tty.out, "{} bytes\r\n", password.as_str().len())?,
+    ///     Read::Interrupted | Read::Closed => {}
+    /// }
+    /// ```
+    pub fn read_hidden<
+        S: EventSource<Global>,
+        D: ModeDevice,
+        W: Write + Drop,
+        C: Clock + Drop,
+        R: Wait,
+    >(&self, rt: &R, tty: &mut Session<S, D, W, C>, mask: Mask) -> io::Result<Read>
+        ensures line { IfOk result (λ read. HiddenLine S.drawn S.asked mask self.now (knows tty.old.pass) (answer_seen read) (knows tty.new.pass) (W.contents tty.old.out) (W.contents tty.new.out)) }
+        ensures err { IfErr result (λ error. HiddenStops S.drawn S.asked mask self.now (knows tty.old.pass) (error_kind error) (knows tty.new.pass) (W.contents tty.old.out) (W.contents tty.new.out)) }
+        ensures refused { spec.have_control (prompt_runs self.now) ≡ true → IsErrAnd result (λ error. error_kind error ≡ InvalidInput) × (tty.new ≡ tty.old) }
+        ensures allowed { OnOk result (spec.have_control (prompt_runs self.now) ≡ false) }
+        ensures features { tty.new.features ≡ tty.old.features }
+        ensures already { IsTrue (is_some tty.old.term.prior) → tty.new.term.prior ≡ tty.old.term.prior }
+        ensures raw { OnOk result (tty.old.term.prior ≡ None → tty.new.term.prior ≡ Some (D.current tty.old.term.device)) }
+    {
+        if have_control(self.text, self.parts) {
+            let kind = ErrorKind::InvalidInput;
+            return Err(io::Error::from(kind));
+        }
+        let (asks, wraps) = (self.asks, self.wraps);
+        let prompt = Prompt {
+            text: self.text,
+            parts: self.parts,
+            helper: &(),
+            mask: Some(mask),
+            asks,
+            wraps,
+            size: Cell::new(self.size.get()),
+            reflows: Cell::new(self.reflows.get()),
+        };
+        let mut editor = Editor::new(tty.alloc, hidden_limits())?;
+        prompt.read_line(rt, tty, &mut editor)
     }
 }
 
@@ -683,8 +873,8 @@ pub fn read_line<
 ) -> io::Result<Read<A>>
     ensures line { IfOk result (λ read. LineEnds S.drawn S.asked as_read (knows tty.old.pass) editor.old (answer_seen read) (knows tty.new.pass) editor.new) }
     ensures err { IfErr result (λ error. StopsAsking S.drawn S.asked as_read (knows tty.old.pass) editor.old (error_kind error) (knows tty.new.pass) editor.new) }
-    ensures written { IfOk result (λ read. LineEndsShown S.drawn S.asked (look_of as_read (λ _. []) prompt.now true true) (knows tty.old.pass) editor.old (answer_seen read) (knows tty.new.pass) editor.new (W.contents tty.old.out) (W.contents tty.new.out)) }
-    ensures cut { IfErr result (λ error. StopsShown S.drawn S.asked (look_of as_read (λ _. []) prompt.now true true) (knows tty.old.pass) editor.old (error_kind error) (knows tty.new.pass) editor.new (W.contents tty.old.out) (W.contents tty.new.out)) }
+    ensures written { IfOk result (λ read. LineEndsShown S.drawn S.asked (plain_look prompt.now) (knows tty.old.pass) editor.old (answer_seen read) (knows tty.new.pass) editor.new (W.contents tty.old.out) (W.contents tty.new.out)) }
+    ensures cut { IfErr result (λ error. StopsShown S.drawn S.asked (plain_look prompt.now) (knows tty.old.pass) editor.old (error_kind error) (knows tty.new.pass) editor.new (W.contents tty.old.out) (W.contents tty.new.out)) }
     ensures refused { prompts.has_control (chars prompt.now) ≡ true → IsErrAnd result (λ error. error_kind error ≡ InvalidInput) × (tty.new ≡ tty.old) × (editor.new ≡ editor.old) }
     ensures allowed { OnOk result (prompts.has_control (chars prompt.now) ≡ false) }
     ensures features { tty.new.features ≡ tty.old.features }

@@ -17,8 +17,9 @@
 //! }
 //! ```
 //!
-//! A `Prompt` has more: a `Helper` completes the line at Tab, and shows a hint behind it. `Words` is one that completes names. A `HistoryFile`
-//! keeps the accepted lines from one run to the next.
+//! A `Prompt` has more: parts in styles of their own, and a `Helper`, which completes the line at Tab, lists candidates below it at a second Tab, and
+//! shows a hint behind it. `Words` is one that completes the word before the cursor by names. `Prompt::read_hidden` asks for a password. A
+//! `HistoryFile` keeps the accepted lines from one run to the next.
 //!
 //! The line takes as many rows as it needs, of all columns of the window but the last. If it needs more rows than the window has, it scrolls, with
 //! the cursor in sight. A row begins at each line feed. `Prompt::in_one_row` is for one row, through which the line is seen as `Line::seen` says. A
@@ -47,12 +48,14 @@
 //! | the lines of several calls are those of all events that were read for them, but for those whose texts are too long | `laws::gives_lines` |
 //! | all that is written for a line is a list of pieces. A frame of the line follows each event that was taken, before the next one is read; an event that clears the window does so first. The bell rings at a text that is too long, and behind the frame at a search that finds nothing. After a resize comes an erasure from the first row on, or from above it, and before that at most the question for the cursor's place, if the prompt asks. Once the line has ended the rows are left once, as far as the writer goes | `Prompt::read_line`, `read_line` |
 //! | after an error a beginning of such a list was written, for the events that the editor took | `Prompt::read_line`, `read_line` |
-//! | while an incremental search goes on, what it looks for is shown in the prompt's place, and no hint | `Prompt::read_line`, `read_line` |
-//! | the cells of each frame: the prompt, the line and the hint, wrapped into rows. The hint is dimmed, and shown if the cursor is at the line's end and the last row has room for it. All rows are in sight if they are no more than the window has, else as many as it has, with the cursor's | `Rows::{draw, draw_next}`, `Prompt::read_line`, `read_line` |
-//! | in one row: the prompt, if it leaves eight columns to the line; the line, as `Line::seen` sees it in some columns; behind it the hint, if there is room; and blanks | `Row::{draw, draw_next}`, `Rows::{draw, draw_next}`, `Prompt::read_line` |
-//! | a frame makes the rows show these cells, with the cursor behind what was printed before it, and changes nothing else; at an error a beginning of one was written. What leaves the rows, and what clears the window | `Rows::{draw, draw_next, leave, clear}`, `Row::{draw, draw_next, leaving, clearing}`, `Prompt::read_line`, `read_line` |
-//! | a frame for who draws alone has no move, no style and no other control function that it doesn't need | `Rows::draw_next`, `Row::draw_next`, `Prompt::read_line`, `read_line` |
-//! | names complete a text by the rest of the first that begins with it and goes on | `Helper::complete` of `Words` |
+//! | while an incremental search goes on, what it looks for is shown in the prompt's place, and no hint | `Prompt::{read_line, show}`, `read_line` |
+//! | candidates are listed in a frame behind two Tabs, and in no other | `Prompt::read_line` |
+//! | nothing is shown of a hidden line, or a star for each character; neither a hint nor a search is. It was typed in an editor of its own, which keeps no line | `Prompt::read_hidden` |
+//! | the cells of each frame: the parts of the prompt in their styles, the line and the hint, wrapped into rows, and candidates in columns below them. The hint is dimmed, and shown if the cursor is at the line's end, the last row has room for it, and no candidates are listed. All rows are in sight if they are no more than the window has, else as many as it has, with the cursor's | `Rows::{draw, draw_next}`, `Prompt::{read_line, show}`, `read_line` |
+//! | in one row: the prompt, if it leaves eight columns to the line; the line, as `Line::seen` sees it in some columns; behind it the hint, if there is room; and blanks | `Rows::{draw, draw_next}`, `Prompt::{read_line, show}` |
+//! | a frame makes the rows show these cells, with the cursor behind what was printed before it, and changes nothing else; at an error a beginning of one was written. What leaves the rows, what erases them, and what clears the window | `Rows::{draw, draw_next, leave, erase, clear}`, `Prompt::{read_line, show}`, `read_line` |
+//! | a frame for who draws alone has no move, no style and no other control function that it doesn't need | `Rows::draw_next`, `Prompt::{read_line, show}`, `read_line` |
+//! | names complete the word before the cursor by what those that begin with it have in common behind it; these are its candidates, and the rest of the first that goes on is the hint | `Helper::{complete, candidates, hint}` of `Words` |
 //! | what is to be written to a history's file grows by the text of each line that is appended, unless the editor's limits leave the line out. No byte of it is lost: only what was written to a file goes, up to the start of a line, and the rest stays | `HistoryFile::append` |
 //! | that a history's file can't be read or written is returned once; if it wasn't, nothing is left to be written; refused memory changes nothing | `HistoryFile::{load, append}` |
 //!
@@ -67,16 +70,16 @@
 //! | Definitions | Of | Contract |
 //! |---|---|---|
 //! | `Prompts` | which prompts are refused | `Prompt::read_line`, `read_line` |
-//! | `Words` | how names complete a text | `Helper::complete` of `Words` |
+//! | `Words` | how names complete the word before the cursor | `Helper` of `Words` |
 //! | `Completing` | what an editor is given for an event | `Prompt::read_line` |
 //! | `Asking` | what comes of asking for a line, event by event | `Prompt::read_line`, `read_line` |
 //! | `Lines` | the events and the lines of several calls | `laws::gives_lines` |
-//! | `Drawing` | how a line is drawn in the cursor's row | `Row`, `Rows::clear` |
-//! | `Pictures` | which cells show a prompt, a line and a hint in one row | `Row::{draw, draw_next}`, `Prompt::read_line` |
-//! | `RowFrames` | what is written to show a line in the cursor's row | `Row::{draw, draw_next}` |
-//! | `Wrapping` | which cells show a prompt, a line and a hint in several rows | `Rows::{draw, draw_next}`, `Prompt::read_line`, `read_line` |
+//! | `Shown` | what is shown of a line, and how candidates are listed | `Shown`, `Rows` |
+//! | `Drawing` | columns of a row, and the texts of a search and of a clearing | `search_text`, `Rows::clear` |
+//! | `Pictures` | which cells show a line in one row | `Rows::{draw, draw_next}`, `Prompt::read_line` |
+//! | `Wrapping` | which cells show a line in several rows | `Rows::{draw, draw_next}`, `Prompt::read_line`, `read_line` |
 //! | `Frames` | what is written to show a line: a frame of the rows, the bell, an erasure, and what leaves the rows | `Rows`, `Prompt::read_line`, `read_line` |
-//! | `Written` | what is written while a line is asked for, piece by piece | `Prompt::read_line`, `read_line` |
+//! | `Written` | what is written while a line is asked for, piece by piece | `Prompt::{read_line, read_hidden, show}`, `read_line` |
 //! | `Histories` | the lines that are appended to a history's file | `HistoryFile` |
 //!
 //! `specs/inside/` says the same of a part, and no public clause cites it.
@@ -91,20 +94,22 @@ mod filling;
 mod helpers;
 mod histories;
 pub mod laws;
+mod listing;
 mod prompts;
 mod read;
 mod reflow;
 mod rows;
+mod shown;
 mod troubles;
 mod words;
 
 pub use appending::LockFile;
 pub use asking::{Prompt, read_line};
-pub use drawing::Row;
 pub use helpers::Helper;
 pub use histories::HistoryFile;
 pub use prompts::{is_shown, search_text};
 pub use read::Read;
 pub use rows::Rows;
+pub use shown::Shown;
 pub use troubles::HistoryTrouble;
 pub use words::Words;

@@ -1,10 +1,12 @@
 //! A prompt, and what is shown of it.
-ghost use Rattle.std.specs.Prelude.{◌≡◌, ◌≤◌, ◌⊎◌, [], IfOk, IfSome, chars, max, not, string_bytes};
+ghost use Rattle.std.specs.Prelude.{◌≡◌, ◌≤◌, IfOk, IfSome, chars, max, not, string_bytes};
 ghost use Rattle.line_editor.specs.Views as views;
-ghost use Rattle.prompt.specs.Pictures.{hint_behind, most_columns, shown_hint, shown_prompt};
+ghost use Rattle.prompt.specs.Pictures.{hint_behind, most_columns, prompt_columns, prompt_has_room, shown_hint};
 ghost use Rattle.prompt.specs.Prompts.{has_control};
 ghost use Rattle.prompt.specs.Drawing.{IsParted, search_text};
+ghost use Rattle.prompt.specs.Shown.{runs_of};
 
+use crossterm::style::StyledContent;
 use std::alloc::{AllocError, Global};
 use unicode_width::UnicodeWidthChar;
 
@@ -40,7 +42,7 @@ pub fn is_shown(text: &str) -> bool
 /// ```
 /// if let Some(pattern) = editor.pattern() {
 ///     let text = search_text(alloc, pattern, editor.is_ahead())?;
-///     row.draw(&mut out, text.as_str(), editor.line(), "")?;
+///     rows.draw(&mut out, &Shown::new(text.as_str(), editor.line()))?;
 /// }
 /// ```
 pub fn search_text(alloc: Global, pattern: &str, is_ahead: bool) -> Result<String, AllocError>
@@ -60,7 +62,7 @@ pub fn search_text(alloc: Global, pattern: &str, is_ahead: bool) -> Result<Strin
 }
 
 /// The columns that a character takes.
-fn columns_of(c: char) -> usize
+pub(crate) fn columns_of(c: char) -> usize
     ensures value { result ≡ views.columns_of c }
     ensures few { result ≤ 3 }
 {
@@ -91,16 +93,22 @@ fn most_columns(text: &str) -> u16
 /// The columns that a prompt leaves to the line at least.
 const ROOM: u16 = 8;
 
-/// What is shown of a prompt in a row of so many columns: all of it, or nothing if too few are left.
-pub(crate) fn shown(prompt: &str, columns: u16) -> &str
-    ensures value { result.now ≡ shown_prompt columns prompt.now }
-    ensures either { (result.now ≡ []) ⊎ (result.now ≡ prompt.now) }
+/// The columns that a text and the parts behind it take at most.
+fn prompt_columns(text: &str, parts: &[StyledContent<&str>]) -> u16
+    ensures { result ≡ prompt_columns (runs_of text.now parts.now) }
 {
-    if columns.saturating_sub(most_columns(prompt)) < ROOM {
-        ""
-    } else {
-        prompt
+    let mut columns = 0u16;
+    for part in parts {
+        columns = columns.saturating_add(most_columns(part.content()));
     }
+    most_columns(text).saturating_add(columns)
+}
+
+/// Whether a prompt is shown in a row of so many columns. It isn't if it leaves too few.
+pub(crate) fn has_room(text: &str, parts: &[StyledContent<&str>], columns: u16) -> bool
+    ensures { result ≡ prompt_has_room columns (runs_of text.now parts.now) }
+{
+    columns.saturating_sub(prompt_columns(text, parts)) >= ROOM
 }
 
 /// What is shown of a hint in so many columns: all of it, or nothing if it has no room or has a control character.

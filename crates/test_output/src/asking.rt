@@ -4,6 +4,7 @@ mod drawn;
 mod helped;
 mod resized;
 mod rows;
+mod shown;
 
 use crate::noted::{Call, Noted, terminal_by};
 use crate::witness::Witness;

@@ -1,10 +1,10 @@
 //! Asks a terminal for a line.
 
-use super::{Editor, Helper, LineError, Outcome};
+use super::{Editor, Helper, Limits, LineError, Mask, Outcome};
 use crate::event::Event;
 use crate::key::{KeyCode, KeyModifiers};
 use crate::writing::write_command;
-use crate::{ClearType, Command};
+use crate::Command;
 use std::io::{self, Write};
 
 /// A terminal that `Editor::readline` asks, and that takes what it shows. The crate `crossterm` beside this one has one.
@@ -32,8 +32,8 @@ use std::io::{self, Write};
 ///         Ok(true)
 ///     }
 ///
-///     fn columns(&mut self) -> io::Result<u16> {
-///         Ok(80)
+///     fn size(&mut self) -> io::Result<(u16, u16)> {
+///         Ok((80, 24))
 ///     }
 ///
 ///     fn has_event(&mut self) -> io::Result<bool> {
@@ -59,12 +59,12 @@ pub trait Terminal: Write {
     /// The system's. Then the mode hasn't changed.
     fn set_raw_mode(&mut self, is_on: bool) -> io::Result<bool>;
 
-    /// The window's columns; 0 if they aren't known.
+    /// The window's columns and rows; 0 if they aren't known.
     ///
     /// # Errors
     ///
     /// The system's.
-    fn columns(&mut self) -> io::Result<u16>;
+    fn size(&mut self) -> io::Result<(u16, u16)>;
 
     /// Whether `read` returns at once.
     ///
@@ -122,34 +122,34 @@ fn may_end(event: &Event) -> bool {
 }
 
 impl<H: Helper> Editor<H> {
-    /// Asks for a line in the cursor's row, behind a prompt, until Enter, Ctrl-C, or Ctrl-D in an empty line. It returns neither
+    /// Asks for a line from the cursor's row on, behind a prompt, until Enter, Ctrl-C, or Ctrl-D in an empty line. It returns neither
     /// `Outcome::Going` nor `Ring`.
     ///
     /// Raw mode is on meanwhile, and so are pastes as events, unless this crate lacks the feature `bracketed-paste`. Both are off again however
     /// it ends; a raw mode that was on before stays on. Between two lines the terminal has its own mode, in which Ctrl-C ends the program.
     ///
-    /// What is there at once is taken before the line is shown. A text without room, and a search that finds nothing, ring the bell. After a resize the row is drawn anew, and
-    /// Ctrl-L clears the window before.
+    /// What is there at once is taken before the line is shown. A text without room, and a search that finds nothing, ring the bell. After a resize the rows are drawn
+    /// anew, and Ctrl-L clears the window before.
     ///
     /// The editor may hold an unfinished line, as after an error: then that line goes on.
     ///
     /// # Errors
     ///
     /// `InvalidInput` if the prompt has a control character, and then nothing was done; those of the terminal; `OutOfMemory`. The editor has taken
-    /// all events that were read, but one for which memory was refused, and the cursor stays in the row.
+    /// all events that were read, but one for which memory was refused, and the cursor stays in its row.
     ///
-    /// A line that has ended is returned also if the terminal fails to leave its row.
+    /// A line that has ended is returned also if the terminal fails to leave its rows.
     pub fn readline<T: Terminal + ?Sized>(&mut self, prompt: &str, terminal: &mut T) -> io::Result<Outcome> {
-        self.begin(prompt, 0)?;
+        self.begin(prompt, 0, 0)?;
         let session = Session::begin(terminal)?;
         // From its first look on a terminal reports resizes: so none is lost between its size and the next event.
         session.terminal.has_event()?;
-        let columns = session.terminal.columns()?;
-        self.begin(prompt, columns)?;
+        let (columns, rows) = session.terminal.size()?;
+        self.begin(prompt, columns, rows)?;
         self.show(session.terminal)?;
         loop {
             let event = session.terminal.read()?;
-            match self.take(prompt, &event, session.terminal)? {
+            match self.take(&event, session.terminal)? {
                 Outcome::Going | Outcome::Ring => {}
                 outcome => {
                     let _ = self.flush(session.terminal);
@@ -160,7 +160,7 @@ impl<H: Helper> Editor<H> {
     }
 
     /// Takes an event, and shows the line unless more are there.
-    fn take<T: Terminal + ?Sized>(&mut self, prompt: &str, event: &Event, terminal: &mut T) -> io::Result<Outcome> {
+    fn take<T: Terminal + ?Sized>(&mut self, event: &Event, terminal: &mut T) -> io::Result<Outcome> {
         // The event is taken even if its frame fails.
         let shown = if may_end(event) { self.show(terminal) } else { Ok(()) };
         let taken = self.turn(event);
@@ -173,14 +173,24 @@ impl<H: Helper> Editor<H> {
         if rings {
             terminal.write_all(b"\x07")?;
         }
-        if let Event::Resize(columns, _) = *event {
-            write_command(terminal, &Command::MoveToColumn(0), true)?;
-            write_command(terminal, &Command::Clear(ClearType::FromCursorDown), true)?;
-            self.begin(prompt, columns)?;
+        if let Event::Resize(columns, rows) = *event {
+            self.resize(columns, rows)?;
         }
         if !terminal.has_event()? {
             self.show(terminal)?;
         }
         Ok(Outcome::Going)
     }
+}
+
+/// Asks for a line that nobody is to read, as a password: as `Editor::readline` does, but nothing is shown of the line, or a star for each
+/// character. It is typed in an editor of its own, so that no history and no undo has it.
+///
+/// # Errors
+///
+/// Those of `Editor::readline`, and what was typed before an error is lost.
+pub fn read_hidden<T: Terminal + ?Sized>(prompt: &str, mask: Mask, terminal: &mut T) -> io::Result<Outcome> {
+    let mut editor = Editor::new(Limits { lines: 0, ..Limits::default() })?;
+    editor.hide(Some(mask));
+    editor.readline(prompt, terminal)
 }

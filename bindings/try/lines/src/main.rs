@@ -1,6 +1,6 @@
 //! Plays the scripts of play.c through the crate `gelvanh`, and prints the same lines.
 use gelvanh::flat;
-use gelvanh::line::{Editor, LineError, Limits, Outcome, Words};
+use gelvanh::line::{Editor, LineError, Limits, Mask, Outcome, Words};
 use std::fmt::Write as _;
 use std::io::{self, BufRead, Write};
 
@@ -37,13 +37,28 @@ fn key_of(numbers: &str) -> flat::Event {
     flat::Event { kind: 3, code: code as u16, value, modifiers: modifiers as u8, press: press as u8, ..flat::Event::default() }
 }
 
+/// Columns and rows.
+fn size_of(numbers: &str) -> (u16, u16) {
+    let (columns, rows) = numbers.split_once(',').expect("columns and rows");
+    (columns.parse().expect("a number"), rows.parse().expect("a number"))
+}
+
 /// What comes of a word, as the number that the archive answers, and the line that was accepted.
 fn act(editor: &mut Editor<Words>, word: &str, out: &mut Sum) -> (u32, Option<String>) {
     let (kind, rest) = word.split_at(1);
     let done = match kind {
         "b" => {
-            let (columns, prompt) = rest.split_once(':').expect("columns and a prompt");
-            editor.begin(&from_hex(prompt), columns.parse().expect("a number")).map(|()| Outcome::Going)
+            let (size, prompt) = rest.split_once(':').expect("a size and a prompt");
+            let (columns, rows) = size_of(size);
+            editor.begin(&from_hex(prompt), columns, rows).map(|()| Outcome::Going)
+        }
+        "r" => {
+            let (columns, rows) = size_of(rest);
+            editor.resize(columns, rows).map(|()| Outcome::Going)
+        }
+        "h" => {
+            editor.hide([None, Some(Mask::Nothing), Some(Mask::Stars)][rest.parse::<usize>().expect("a number")]);
+            Ok(Outcome::Going)
         }
         "y" => editor.load_history(&from_hex(rest)).map(|()| Outcome::Going),
         "p" => editor.paste(&from_hex(rest)).map(|()| Outcome::Going),

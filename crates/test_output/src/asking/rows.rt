@@ -2,7 +2,7 @@
 
 use super::{EMPTY, NEXT, is_written};
 use line_editor::{Action, Editor, Limits, Stop, Target};
-use prompt::Rows;
+use prompt::{Rows, Shown};
 use std::alloc::Global;
 use std::io;
 use test_support::expect;
@@ -27,16 +27,16 @@ fn rows_are_drawn_wherever_they_begin(rt: HostRuntime) -> io::Result<()> {
     let line = editor.line();
     let mut out = Vec::new(alloc);
     let mut rows = Rows::new(alloc, (5, 3))?;
-    rows.draw(&mut out, "> ", line, "")?;
+    rows.draw(&mut out, &Shown::new("> ", line))?;
     // Nothing has changed: the cursor is put in its place, if something else may have been written.
-    rows.draw_next(&mut out, "> ", line, "")?;
-    rows.draw(&mut out, "> ", line, "")?;
+    rows.draw_next(&mut out, &Shown::new("> ", line))?;
+    rows.draw(&mut out, &Shown::new("> ", line))?;
     rows.leave(&mut out)?;
     rows.forget();
-    rows.draw_next(&mut out, "> ", line, "")?;
+    rows.draw_next(&mut out, &Shown::new("> ", line))?;
     rows.clear(&mut out)?;
     rows.resize((9, 3));
-    rows.draw_next(&mut out, "> ", line, "")?;
+    rows.draw_next(&mut out, &Shown::new("> ", line))?;
     let written = [
         EMPTY,
         IN_THREE,
@@ -59,17 +59,17 @@ fn a_line_that_has_no_room_scrolls(rt: HostRuntime) -> io::Result<()> {
     let mut out = Vec::new(alloc);
     // By rows, if it is wrapped: the last two are in sight, and then the first two.
     let mut rows = Rows::new(alloc, (5, 2))?;
-    rows.draw(&mut out, "> ", editor.line(), "")?;
+    rows.draw(&mut out, &Shown::new("> ", editor.line()))?;
     let at_end = [EMPTY, "\r\n\x1b[K\x1b[1Ae tw\x1b[1G\x1b[1Bo"];
     expect!(rt; is_written(&out, &at_end));
     out.clear();
     expect!(rt; editor.run(&[Action::Go(Target::Back(Stop::Edge))]).is_ok());
-    rows.draw_next(&mut out, "> ", editor.line(), "")?;
+    rows.draw_next(&mut out, &Shown::new("> ", editor.line()))?;
     expect!(rt; is_written(&out, &["\x1b[1A\x1b[1G> on\x1b[3G\x1b[1B\x1b[1Ge tw\x1b[1G\x1b[1A\x1b[3G"]));
     // By columns, if it has one row.
     out.clear();
     let mut row = Rows::in_one_row(alloc, (5, 2))?;
-    row.draw(&mut out, "> ", editor.line(), "")?;
+    row.draw(&mut out, &Shown::new("> ", editor.line()))?;
     expect!(rt; is_written(&out, &[EMPTY, "one\x1b[1G"]));
     Ok(())
 }

@@ -6,7 +6,8 @@ use Rattle.line_c.proofs.lines.started.Goals as goal
 pub returns : goal.returns
 returns c = record {
   editor = c.in_ok-editor.ensures.ok;
-  row = (c.in-Ok.ensures.unknown, c.in-Ok.ensures.plain);
-  texts = (c.new-3.ensures.bytes, c.new-4.ensures.bytes, ap chars c.new-5.ensures.bytes ∙ chars-nil);
-  output = (refl, c.new-6.ensures.items);
+  area = (c.in-Ok.ensures.fresh, c.in-Ok.ensures.size.0, c.in-Ok.ensures.size.1);
+  texts = (c.new-3.ensures.bytes, c.new-4.ensures.bytes, c.new-5.ensures.bytes, ap chars c.new-6.ensures.bytes ∙ chars-nil);
+  shows = (refl, refl, refl);
+  output = (refl, c.new-7.ensures.items);
 }

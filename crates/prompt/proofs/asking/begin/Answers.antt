@@ -1,4 +1,4 @@
-use Rattle.std.proofs.Common.{[], false, ◌∙◌}
+use Rattle.std.proofs.Common.{[], false, refl, ◌∙◌}
 use Rattle.prompt.specs.Frames.{area_of}
 use Rattle.prompt.specs.Written.{Due, look_of}
 use Rattle.prompt.proofs.Drawn.{new_area, new_is}
@@ -8,7 +8,7 @@ use Rattle.prompt.proofs.asking.begin.Goals as goal
 
 pub returns-in-Err-clause-stops : goal.returns-in-Err-clause-stops
 returns-in-Err-clause-stops g c given =
-    let look = look_of given (g.H.Helper.hints c.args.prompt.now.helper.now) c.args.prompt.now.text.now c.args.prompt.now.asks c.args.prompt.now.wraps in
+    let look = look_of given (g.H.Helper.hints c.args.prompt.now.helper.now) (g.H.Helper.candidates c.args.prompt.now.helper.now) c.args.prompt.now in
     let k = c.args.editor.now in
     let old = g.W.Write.contents c.args.tty.now.out in
     let a = new_area c.args.prompt.now.wraps in
@@ -16,7 +16,7 @@ returns-in-Err-clause-stops g c given =
 
 pub returns-in-Err-size_for-clause-stops : goal.returns-in-Err-size_for-clause-stops
 returns-in-Err-size_for-clause-stops g c given =
-    let look = look_of given (g.H.Helper.hints c.args.prompt.now.helper.now) c.args.prompt.now.text.now c.args.prompt.now.asks c.args.prompt.now.wraps in
+    let look = look_of given (g.H.Helper.hints c.args.prompt.now.helper.now) (g.H.Helper.candidates c.args.prompt.now.helper.now) c.args.prompt.now in
     let k = c.args.editor.now in
     let old = g.W.Write.contents c.args.tty.now.out in
     let a = new_area c.args.prompt.now.wraps in
@@ -24,7 +24,7 @@ returns-in-Err-size_for-clause-stops g c given =
 
 pub returns-in_err-rows-clause-stops : goal.returns-in_err-rows-clause-stops
 returns-in_err-rows-clause-stops g c = err_of c.from_residual.result (λ given.
-    let look = look_of given (g.H.Helper.hints c.args.prompt.now.helper.now) c.args.prompt.now.text.now c.args.prompt.now.asks c.args.prompt.now.wraps in
+    let look = look_of given (g.H.Helper.hints c.args.prompt.now.helper.now) (g.H.Helper.candidates c.args.prompt.now.helper.now) c.args.prompt.now in
     let k = c.args.editor.now in
     let old = g.W.Write.contents c.args.tty.now.out in
     let a = new_area c.args.prompt.now.wraps in
@@ -32,20 +32,20 @@ returns-in_err-rows-clause-stops g c = err_of c.from_residual.result (λ given.
 
 pub returns-in-Ok-show-clause-shows : goal.returns-in-Ok-show-clause-shows
 returns-in-Ok-show-clause-shows g c given =
-    let look = look_of given (g.H.Helper.hints c.args.prompt.now.helper.now) c.args.prompt.now.text.now c.args.prompt.now.asks c.args.prompt.now.wraps in
+    let look = look_of given (g.H.Helper.hints c.args.prompt.now.helper.now) (g.H.Helper.candidates c.args.prompt.now.helper.now) c.args.prompt.now in
     let k = c.args.editor.now in
     let old = g.W.Write.contents c.args.tty.now.out in
     let mid = g.W.Write.contents c.size_for.new.tty.out in
     let a = area_of c.in_ok-rows.rows in
     let due = moved look k g.W.Write.contents [] k (Due a false) old c.args.tty.now.out c.size_for.new.tty.out (c.size_for.ensures.others.0 ∙ c.in-Ok.ensures.others.0) (starts look k a old c.in_ok-rows.ensures.fresh) in
-    shows look k [] k a (area_of c.show.new.rows) false old mid (g.W.Write.contents c.show.new.out) due c.in-Ok-show.ensures.shows
+    shows look k [] k a (area_of c.show.new.rows) false false old mid (g.W.Write.contents c.show.new.out) refl due c.in-Ok-show.ensures.shows
 
 pub returns-in-Err-show-clause-stops : goal.returns-in-Err-show-clause-stops
 returns-in-Err-show-clause-stops g c given =
-    let look = look_of given (g.H.Helper.hints c.args.prompt.now.helper.now) c.args.prompt.now.text.now c.args.prompt.now.asks c.args.prompt.now.wraps in
+    let look = look_of given (g.H.Helper.hints c.args.prompt.now.helper.now) (g.H.Helper.candidates c.args.prompt.now.helper.now) c.args.prompt.now in
     let k = c.args.editor.now in
     let old = g.W.Write.contents c.args.tty.now.out in
     let mid = g.W.Write.contents c.size_for.new.tty.out in
     let a = area_of c.in_ok-rows.rows in
     let due = moved look k g.W.Write.contents [] k (Due a false) old c.args.tty.now.out c.size_for.new.tty.out (c.size_for.ensures.others.0 ∙ c.in-Ok.ensures.others.0) (starts look k a old c.in_ok-rows.ensures.fresh) in
-    shows_front look k [] k a false old mid (g.W.Write.contents c.show.new.out) due c.in-Err-show.ensures.stops
+    shows_front look k [] k a false false old mid (g.W.Write.contents c.show.new.out) refl due c.in-Err-show.ensures.stops

@@ -7,26 +7,26 @@ use Rattle.prompt.proofs.Showing.{empties, empties_front, shows, shows_front}
 use Rattle.prompt.proofs.asking.show_at_top.Goals as goal
 
 pub returns-in-Err-clause-stops : goal.returns-in-Err-clause-stops
-returns-in-Err-clause-stops g c given w es from h =
-    let look = look_of given (g.H.Helper.hints c.args.prompt.now.helper.now) c.args.prompt.now.text.now c.args.prompt.now.asks c.args.prompt.now.wraps in
+returns-in-Err-clause-stops g c given w es from tabs h =
+    let look = look_of given (g.H.Helper.hints c.args.prompt.now.helper.now) (g.H.Helper.candidates c.args.prompt.now.helper.now) c.args.prompt.now in
     empties_front look w es c.args.editor.now (area_of c.args.rows.now) from (g.W.Write.contents c.args.out.now) (g.W.Write.contents c.clear.new.out) h (at_err c.in-Err.is c.clear.ensures.err)
 
 pub returns-in-Ok-clause-shows : goal.returns-in-Ok-clause-shows
-returns-in-Ok-clause-shows g c given w es from h =
-    let look = look_of given (g.H.Helper.hints c.args.prompt.now.helper.now) c.args.prompt.now.text.now c.args.prompt.now.asks c.args.prompt.now.wraps in
+returns-in-Ok-clause-shows g c given w es from tabs h =
+    let look = look_of given (g.H.Helper.hints c.args.prompt.now.helper.now) (g.H.Helper.candidates c.args.prompt.now.helper.now) c.args.prompt.now in
     let a = area_of c.args.rows.now in
     let b = area_of c.clear.new.self in
     let mid = g.W.Write.contents c.clear.new.out in
     let empty = empties look w es c.args.editor.now a c.clear.new.self.block.room from (g.W.Write.contents c.args.out.now) mid h (at_ok c.in-Ok.is c.clear.ensures.ok) in
     let due = subst (λ (x : Area). HasWritten look w es c.args.editor.now (Due x false) from mid) (sym (at_ok c.in-Ok.is c.clear.ensures.area)) empty in
-    ok_with c.show.result (λ d. shows look w es c.args.editor.now b (area_of c.show.new.rows) false from mid (g.W.Write.contents c.show.new.out) due d) c.show.ensures.shows
+    ok_with c.show.result (λ d. shows look w es c.args.editor.now b (area_of c.show.new.rows) false c.args.lists from mid (g.W.Write.contents c.show.new.out) tabs due d) c.show.ensures.shows
 
 pub returns-in-Ok-clause-stops : goal.returns-in-Ok-clause-stops
-returns-in-Ok-clause-stops g c given w es from h =
-    let look = look_of given (g.H.Helper.hints c.args.prompt.now.helper.now) c.args.prompt.now.text.now c.args.prompt.now.asks c.args.prompt.now.wraps in
+returns-in-Ok-clause-stops g c given w es from tabs h =
+    let look = look_of given (g.H.Helper.hints c.args.prompt.now.helper.now) (g.H.Helper.candidates c.args.prompt.now.helper.now) c.args.prompt.now in
     let a = area_of c.args.rows.now in
     let b = area_of c.clear.new.self in
     let mid = g.W.Write.contents c.clear.new.out in
     let empty = empties look w es c.args.editor.now a c.clear.new.self.block.room from (g.W.Write.contents c.args.out.now) mid h (at_ok c.in-Ok.is c.clear.ensures.ok) in
     let due = subst (λ (x : Area). HasWritten look w es c.args.editor.now (Due x false) from mid) (sym (at_ok c.in-Ok.is c.clear.ensures.area)) empty in
-    err_with c.show.result (λ d. shows_front look w es c.args.editor.now b false from mid (g.W.Write.contents c.show.new.out) due d) c.show.ensures.stops
+    err_with c.show.result (λ d. shows_front look w es c.args.editor.now b false c.args.lists from mid (g.W.Write.contents c.show.new.out) tabs due d) c.show.ensures.stops
