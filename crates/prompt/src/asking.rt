@@ -1,11 +1,10 @@
 //! Asks for a line, an event at a time.
-ghost use Rattle.std.specs.Prelude.{◌≡◌, ◌&&◌, ◌<◌, ◌≤◌, [], ℕ, chars, true, false, IfErr, IfOk, IsErrAnd, IsTrue, List, None, OnErr, OnOk, Option, Some, is_some};
+ghost use Rattle.std.specs.Prelude.{◌≡◌, ◌&&◌, [], ℕ, chars, true, false, IfErr, IfOk, IsErrAnd, IsTrue, List, None, OnErr, OnOk, Option, Some, is_some};
 ghost use Rattle.std.specs.IoError.{error_kind};
 ghost use Rattle.std.specs.declared.io.ErrorKind.TheVariants.{InvalidInput};
 ghost use Rattle.crossterm_types.specs.Seen.{Paste, Seen, seen_event};
 ghost use Rattle.crossterm_read.specs.History.{Known};
 ghost use Rattle.crossterm_read.specs.PassViews.{knows};
-ghost use Rattle.line_editor.specs.Seeking.{is_ahead};
 ghost use Rattle.line_editor.specs.States.{EditorState};
 ghost use Rattle.prompt.specs.Asking.{LineEnds, StopsAsking, GoesOn, answer_seen};
 ghost use Rattle.prompt.specs.Completing as completing;
@@ -13,17 +12,18 @@ ghost use Rattle.prompt.specs.Completing.{as_read, given_by};
 ghost use Rattle.prompt.specs.Prompts as prompts;
 ghost use Rattle.prompt.specs.Shown as spec;
 ghost use Rattle.prompt.specs.Shown.{runs_of};
-ghost use Rattle.prompt.specs.Frames.{Draws, DrawsFront, IsSizeOf, area_of};
+ghost use Rattle.prompt.specs.Frames.{area_of};
 ghost use Rattle.prompt.specs.Written as written;
-ghost use Rattle.prompt.specs.Written.{Clears, Due, GoesOnShown, HasWritten, HasWrittenFront, HiddenLine, HiddenStops, IsNewPrompt, IsPromptLike, LineEndsShown, Resized, Shows, StopsShown, ends_in_tabs, hidden_limits, line_shown, look_of, masked_shown, plain_look, prompt_runs, search_shown, shown_for};
-ghost use Rattle.prompt.specs.inside.Turning.{IsTaken, Leads, LeadsShown, MayAsk, MayQuery, stage_after};
+ghost use Rattle.prompt.specs.Written.{GoesOnShown, HasWritten, HasWrittenFront, HiddenLine, HiddenStops, IsNewPrompt, IsPromptLike, LineEndsShown, Shows, StopsShown, hidden_limits, look_of, plain_look, prompt_runs};
+ghost use Rattle.prompt.specs.inside.Turning.{IsTaken, Leads, LeadsShown};
 
-use crate::drawing::{erase, ring};
+use crate::drawing::ring;
+use crate::frames::{show_after, show_and_ring, show_at_top};
 use crate::helpers::Helper;
-use crate::prompts::search_text;
+use crate::placing::size_for;
 use crate::read::Read;
 use crate::rows::Rows;
-use crate::shown::{Shown, have_control};
+use crate::shown::have_control;
 use crossterm::event::source::EventSource;
 use crossterm::event::timeout::Clock;
 use crossterm::event::{Event, KeyCode, KeyEventKind};
@@ -66,19 +66,19 @@ enum Turn<A: Allocator> {
 #[derive(Drop)]
 pub struct Prompt<'a, H = ()> {
     // A text without a style, and styled parts behind it.
-    text: &'a str,
-    parts: &'a [StyledContent<&'a str>],
-    helper: &'a H,
+    pub(crate) text: &'a str,
+    pub(crate) parts: &'a [StyledContent<&'a str>],
+    pub(crate) helper: &'a H,
     // What is shown in the line's place, if nobody is to read it.
-    mask: Option<Mask>,
+    pub(crate) mask: Option<Mask>,
     // Whether the terminal is asked for the cursor's place.
     asks: bool,
     // Whether the line is wrapped.
     wraps: bool,
     // The window's columns and rows, or none if they aren't known.
-    size: Cell<Option<(u16, u16)>>,
+    pub(crate) size: Cell<Option<(u16, u16)>>,
     // Whether the terminal is known to wrap rows anew.
-    reflows: Cell<bool>,
+    pub(crate) reflows: Cell<bool>,
 }
 
 /// A prompt of a text and the parts behind it, without a helper.
@@ -210,17 +210,6 @@ fn is_second(tab: bool, tabbed: bool) -> bool
     tab && tabbed
 }
 
-/// Whether an event reports another size of the window.
-fn is_resize(event: &Event) -> bool
-    ensures { result ≡ written.resizes (seen_event event.now) }
-{
-    match event {
-        Event::Resize(..) => true,
-        Event::FocusGained | Event::FocusLost | Event::Key(_) | Event::Mouse(_) | Event::Paste(_) =>
-            false,
-    }
-}
-
 /// Gives an event to an editor as it is.
 fn take_event<A: Allocator + Clone, B: Allocator>(
     editor: &mut Editor<A>,
@@ -267,303 +256,6 @@ fn take<A: Allocator + Clone, B: Allocator, H: Helper>(
     match helper.complete(editor.line().before(), editor.line().after()) {
         Some(text) => take_text(editor, text),
         None => take_event(editor, event),
-    }
-}
-
-/// Shows what an incremental search looks for, as readline does, and what it found.
-fn show_search<W: Write, A: Allocator>(
-    out: &mut W,
-    editor: &Editor<A>,
-    pattern: &str,
-    rows: &mut Rows,
-) -> io::Result<()>
-    ensures shows { OnOk result (Draws (search_shown (chars pattern.now) editor.now) (area_of rows.old) (area_of rows.new) (W.contents out.old) (W.contents out.new)) }
-    ensures stops { OnErr result (DrawsFront (search_shown (chars pattern.now) editor.now) (area_of rows.old) (W.contents out.old) (W.contents out.new)) }
-    ensures size { IsSizeOf (area_of rows.old) (area_of rows.new) }
-    ensures asked { rows.new.is_asked ≡ rows.old.is_asked }
-{
-    let text = search_text(rows.alloc, pattern, editor.is_ahead())?;
-    rows.draw_next(out, &Shown::new(text.as_str(), editor.line()))
-}
-
-/// Shows the line behind the prompt with its hint, or with the candidates below it.
-fn show_line<W: Write, A: Allocator, H: Helper>(
-    out: &mut W,
-    editor: &Editor<A>,
-    prompt: &Prompt<'_, H>,
-    rows: &mut Rows,
-    lists: bool,
-) -> io::Result<()>
-    ensures shows { OnOk result (Draws (line_shown (look_of as_read (H.hints prompt.now.helper.now) (H.candidates prompt.now.helper.now) prompt.now) lists editor.now)
-        (area_of rows.old) (area_of rows.new) (W.contents out.old) (W.contents out.new)) }
-    ensures stops { OnErr result (DrawsFront (line_shown (look_of as_read (H.hints prompt.now.helper.now) (H.candidates prompt.now.helper.now) prompt.now) lists editor.now)
-        (area_of rows.old) (W.contents out.old) (W.contents out.new)) }
-    ensures size { IsSizeOf (area_of rows.old) (area_of rows.new) }
-    ensures asked { rows.new.is_asked ≡ rows.old.is_asked }
-{
-    let line = editor.line();
-    let mut names = Vec::new(rows.alloc);
-    if lists {
-        names = prompt
-            .helper
-            .candidates(rows.alloc, line.before(), line.after())?;
-    }
-    let shown = Shown {
-        text: prompt.text,
-        parts: prompt.parts,
-        line,
-        hint: prompt.helper.hint(line.text()),
-        candidates: &names,
-    };
-    rows.draw_next(out, &shown)
-}
-
-/// Shows what is in the place of a line that nobody is to read.
-fn show_masked<W: Write, A: Allocator, H>(
-    out: &mut W,
-    editor: &Editor<A>,
-    prompt: &Prompt<'_, H>,
-    mask: Mask,
-    rows: &mut Rows,
-) -> io::Result<()>
-    ensures shows { OnOk result (Draws (masked_shown (prompt_runs prompt.now) mask editor.now) (area_of rows.old) (area_of rows.new) (W.contents out.old) (W.contents out.new)) }
-    ensures stops { OnErr result (DrawsFront (masked_shown (prompt_runs prompt.now) mask editor.now) (area_of rows.old) (W.contents out.old) (W.contents out.new)) }
-    ensures size { IsSizeOf (area_of rows.old) (area_of rows.new) }
-    ensures asked { rows.new.is_asked ≡ rows.old.is_asked }
-{
-    let line = editor.line().masked(rows.alloc, mask)?;
-    let shown = Shown {
-        text: prompt.text,
-        parts: prompt.parts,
-        line: &line,
-        hint: "",
-        candidates: &[],
-    };
-    rows.draw_next(out, &shown)
-}
-
-impl<H: Helper> Prompt<'_, H> {
-    /// Shows an editor's line, as `read_line` does, for who reads events by itself. The helper's candidates are listed below it, or not.
-    ///
-    /// Nothing but a bell was written since the last frame of these rows, or `Rows::forget_cursor` says that it was.
-    ///
-    /// # Errors
-    ///
-    /// Those of `Rows::draw_next`.
-    ///
-    /// ```
-    /// let prompt = Prompt::new("> ");
-    /// let mut rows = Rows::new(alloc, (80, 24))?;
-    /// prompt.show(&mut out, &editor, &mut rows, false)?;
-    /// ```
-    pub fn show<W: Write, A: Allocator>(
-        &self,
-        out: &mut W,
-        editor: &Editor<A>,
-        rows: &mut Rows,
-        lists: bool,
-    ) -> io::Result<()>
-        ensures shows { OnOk result (Draws (shown_for (look_of as_read (H.hints self.now.helper.now) (H.candidates self.now.helper.now) self.now) lists editor.now)
-            (area_of rows.old) (area_of rows.new) (W.contents out.old) (W.contents out.new)) }
-        ensures stops { OnErr result (DrawsFront (shown_for (look_of as_read (H.hints self.now.helper.now) (H.candidates self.now.helper.now) self.now) lists editor.now)
-            (area_of rows.old) (W.contents out.old) (W.contents out.new)) }
-        ensures asked { rows.new.is_asked ≡ rows.old.is_asked }
-        ensures size { IsSizeOf (area_of rows.old) (area_of rows.new) }
-    {
-        if let Some(mask) = self.mask {
-            return show_masked(out, editor, self, mask, rows);
-        }
-        match editor.pattern() {
-            None => show_line(out, editor, self, rows, lists),
-            Some(pattern) => show_search(out, editor, pattern, rows),
-        }
-    }
-}
-
-/// The cursor's column, if the terminal is asked and answers. One that doesn't is asked no more.
-fn ask<S: EventSource<Global>, D: ModeDevice, W: Write + Drop, C: Clock + Drop, R: Wait>(
-    rt: &R,
-    tty: &mut Session<S, D, W, C>,
-    rows: &mut Rows,
-) -> io::Result<Option<u16>>
-    ensures asked { MayAsk S.drawn S.asked (knows tty.old.pass) (knows tty.new.pass) }
-    ensures query { MayQuery rows.old.is_asked (W.contents tty.old.out) (W.contents tty.new.out) }
-    ensures silent { IfOk result (λ place. rows.new.is_asked ≡ is_some place) }
-    ensures fewer { rows.new.is_asked ≡ true → rows.old.is_asked ≡ true }
-    ensures area { (area_of rows.new) ≡ (area_of rows.old) }
-    ensures features { tty.new.features ≡ tty.old.features }
-    ensures mode { IsTrue (is_some tty.old.term.prior) → tty.new.term.prior ≡ tty.old.term.prior }
-{
-    if !rows.is_asked {
-        return Ok(None);
-    }
-    match tty.position(rt) {
-        Ok((column, _)) => Ok(Some(column)),
-        Err(error) => {
-            if error.kind() == ErrorKind::Other {
-                rows.is_asked = false;
-                Ok(None)
-            } else {
-                Err(error)
-            }
-        }
-    }
-}
-
-/// How many rows above the cursor the first row is in a window of so many columns, as far as the terminal reports the cursor's place.
-fn find_start<S: EventSource<Global>, D: ModeDevice, W: Write + Drop, C: Clock + Drop, R: Wait>(
-    rt: &R,
-    tty: &mut Session<S, D, W, C>,
-    rows: &mut Rows,
-    columns: u16,
-) -> io::Result<u16>
-    ensures asked { MayAsk S.drawn S.asked (knows tty.old.pass) (knows tty.new.pass) }
-    ensures query { MayQuery rows.old.is_asked (W.contents tty.old.out) (W.contents tty.new.out) }
-    ensures above { IfOk result (λ above. rows.old.block.row ≤ above) }
-    ensures fewer { rows.new.is_asked ≡ true → rows.old.is_asked ≡ true }
-    ensures area { (area_of rows.new) ≡ (area_of rows.old) }
-    ensures features { tty.new.features ≡ tty.old.features }
-    ensures mode { IsTrue (is_some tty.old.term.prior) → tty.new.term.prior ≡ tty.old.term.prior }
-{
-    match ask(rt, tty, rows) {
-        Ok(Some(column)) => Ok(rows.rows_above(columns, column)),
-        Ok(None) => Ok(rows.row()),
-        Err(error) => Err(error),
-    }
-}
-
-/// The columns and rows of a window. 0 of them, as a serial line says, count as 80 and 24, as in readline.
-fn size_of<S: EventSource<Global>, D: ModeDevice, W: Write + Drop, C: Clock + Drop>(
-    tty: &mut Session<S, D, W, C>,
-) -> io::Result<(u16, u16)>
-    ensures others { (tty.new.out ≡ tty.old.out) × (tty.new.pass ≡ tty.old.pass) × (tty.new.features ≡ tty.old.features) }
-    ensures mode { tty.new.term.prior ≡ tty.old.term.prior }
-    ensures some { IfOk result (λ size. (0 < size.0) × (0 < size.1)) }
-{
-    match tty.size() {
-        Ok((columns, rows)) => {
-            let columns = if columns == 0 { 80 } else { columns };
-            let rows = if rows == 0 { 24 } else { rows };
-            Ok((columns, rows))
-        }
-        Err(error) => Err(error),
-    }
-}
-
-/// Begins a line anew in a window of another size, where it began before.
-fn show_anew<
-    S: EventSource<Global>,
-    D: ModeDevice,
-    W: Write + Drop,
-    C: Clock + Drop,
-    A: Allocator,
-    H: Helper,
-    R: Wait,
->(
-    rt: &R,
-    tty: &mut Session<S, D, W, C>,
-    editor: &Editor<A>,
-    prompt: &Prompt<'_, H>,
-    rows: &mut Rows,
-    lists: bool,
-) -> io::Result<()>
-    ensures asked { MayAsk S.drawn S.asked (knows tty.old.pass) (knows tty.new.pass) }
-    ensures shows { (given : EditorState → Seen → Seen) (w : EditorState) (es : List Seen) (out : Option (List ℕ)) → (rows.old.is_asked ≡ true → prompt.now.asks ≡ true)
-        → ends_in_tabs es ≡ lists → HasWritten (look_of given (H.hints prompt.now.helper.now) (H.candidates prompt.now.helper.now) prompt.now) w es editor.now (Resized (area_of rows.old) false) out (W.contents tty.old.out) → OnOk result (HasWritten (look_of given (H.hints prompt.now.helper.now) (H.candidates prompt.now.helper.now) prompt.now) w es editor.now (Shows (area_of rows.new) false) out (W.contents tty.new.out)) }
-    ensures stops { (given : EditorState → Seen → Seen) (w : EditorState) (es : List Seen) (out : Option (List ℕ)) → (rows.old.is_asked ≡ true → prompt.now.asks ≡ true)
-        → ends_in_tabs es ≡ lists → HasWritten (look_of given (H.hints prompt.now.helper.now) (H.candidates prompt.now.helper.now) prompt.now) w es editor.now (Resized (area_of rows.old) false) out (W.contents tty.old.out) → OnErr result (HasWrittenFront (look_of given (H.hints prompt.now.helper.now) (H.candidates prompt.now.helper.now) prompt.now) w es editor.now out (W.contents tty.new.out)) }
-    ensures fewer { rows.new.is_asked ≡ true → rows.old.is_asked ≡ true }
-    ensures features { tty.new.features ≡ tty.old.features }
-    ensures mode { IsTrue (is_some tty.old.term.prior) → tty.new.term.prior ≡ tty.old.term.prior }
-{
-    let size = match size_of(tty) {
-        Ok(size) => size,
-        Err(error) => return Err(error),
-    };
-    prompt.size.set(Some(size));
-    let above = match find_start(rt, tty, rows, size.0) {
-        Ok(above) => above,
-        Err(error) => return Err(error),
-    };
-    prompt.reflows.set(rows.reflows);
-    rows.resize(size);
-    match erase(&mut tty.out, above) {
-        Ok(()) => prompt.show(&mut tty.out, editor, rows, lists),
-        Err(error) => Err(error),
-    }
-}
-
-/// Shows the line once more, at the top of an empty window.
-fn show_at_top<W: Write, A: Allocator, H: Helper>(
-    out: &mut W,
-    editor: &Editor<A>,
-    prompt: &Prompt<'_, H>,
-    rows: &mut Rows,
-    lists: bool,
-) -> io::Result<()>
-    ensures shows { (given : EditorState → Seen → Seen) (w : EditorState) (es : List Seen) (from : Option (List ℕ))
-        → ends_in_tabs es ≡ lists → HasWritten (look_of given (H.hints prompt.now.helper.now) (H.candidates prompt.now.helper.now) prompt.now) w es editor.now (Clears (area_of rows.old)) from (W.contents out.old) → OnOk result (HasWritten (look_of given (H.hints prompt.now.helper.now) (H.candidates prompt.now.helper.now) prompt.now) w es editor.now (Shows (area_of rows.new) false) from (W.contents out.new)) }
-    ensures stops { (given : EditorState → Seen → Seen) (w : EditorState) (es : List Seen) (from : Option (List ℕ))
-        → ends_in_tabs es ≡ lists → HasWritten (look_of given (H.hints prompt.now.helper.now) (H.candidates prompt.now.helper.now) prompt.now) w es editor.now (Clears (area_of rows.old)) from (W.contents out.old) → OnErr result (HasWrittenFront (look_of given (H.hints prompt.now.helper.now) (H.candidates prompt.now.helper.now) prompt.now) w es editor.now from (W.contents out.new)) }
-    ensures asked { rows.new.is_asked ≡ rows.old.is_asked }
-{
-    match rows.clear(out) {
-        Ok(()) => prompt.show(out, editor, rows, lists),
-        Err(error) => Err(error),
-    }
-}
-
-/// Shows the line once more, and rings the bell.
-fn show_and_ring<W: Write, A: Allocator, H: Helper>(
-    out: &mut W,
-    editor: &Editor<A>,
-    prompt: &Prompt<'_, H>,
-    rows: &mut Rows,
-    lists: bool,
-) -> io::Result<()>
-    ensures shows { (given : EditorState → Seen → Seen) (w : EditorState) (es : List Seen) (from : Option (List ℕ))
-        → ends_in_tabs es ≡ lists → HasWritten (look_of given (H.hints prompt.now.helper.now) (H.candidates prompt.now.helper.now) prompt.now) w es editor.now (Due (area_of rows.old) true) from (W.contents out.old) → OnOk result (HasWritten (look_of given (H.hints prompt.now.helper.now) (H.candidates prompt.now.helper.now) prompt.now) w es editor.now (Shows (area_of rows.new) false) from (W.contents out.new)) }
-    ensures stops { (given : EditorState → Seen → Seen) (w : EditorState) (es : List Seen) (from : Option (List ℕ))
-        → ends_in_tabs es ≡ lists → HasWritten (look_of given (H.hints prompt.now.helper.now) (H.candidates prompt.now.helper.now) prompt.now) w es editor.now (Due (area_of rows.old) true) from (W.contents out.old) → OnErr result (HasWrittenFront (look_of given (H.hints prompt.now.helper.now) (H.candidates prompt.now.helper.now) prompt.now) w es editor.now from (W.contents out.new)) }
-    ensures asked { rows.new.is_asked ≡ rows.old.is_asked }
-{
-    match prompt.show(out, editor, rows, lists) {
-        Ok(()) => ring(out),
-        Err(error) => Err(error),
-    }
-}
-
-/// Shows the line once more after an event.
-fn show_after<
-    S: EventSource<Global>,
-    D: ModeDevice,
-    W: Write + Drop,
-    C: Clock + Drop,
-    A: Allocator,
-    H: Helper,
-    R: Wait,
->(
-    rt: &R,
-    tty: &mut Session<S, D, W, C>,
-    editor: &Editor<A>,
-    prompt: &Prompt<'_, H>,
-    event: &Event,
-    rows: &mut Rows,
-    lists: bool,
-) -> io::Result<()>
-    ensures asked { MayAsk S.drawn S.asked (knows tty.old.pass) (knows tty.new.pass) }
-    ensures shows { (given : EditorState → Seen → Seen) (w : EditorState) (es : List Seen) (out : Option (List ℕ)) → (rows.old.is_asked ≡ true → prompt.now.asks ≡ true)
-        → ends_in_tabs es ≡ lists → HasWritten (look_of given (H.hints prompt.now.helper.now) (H.candidates prompt.now.helper.now) prompt.now) w es editor.now (stage_after (seen_event event.now) (area_of rows.old)) out (W.contents tty.old.out) → OnOk result (HasWritten (look_of given (H.hints prompt.now.helper.now) (H.candidates prompt.now.helper.now) prompt.now) w es editor.now (Shows (area_of rows.new) false) out (W.contents tty.new.out)) }
-    ensures stops { (given : EditorState → Seen → Seen) (w : EditorState) (es : List Seen) (out : Option (List ℕ)) → (rows.old.is_asked ≡ true → prompt.now.asks ≡ true)
-        → ends_in_tabs es ≡ lists → HasWritten (look_of given (H.hints prompt.now.helper.now) (H.candidates prompt.now.helper.now) prompt.now) w es editor.now (stage_after (seen_event event.now) (area_of rows.old)) out (W.contents tty.old.out) → OnErr result (HasWrittenFront (look_of given (H.hints prompt.now.helper.now) (H.candidates prompt.now.helper.now) prompt.now) w es editor.now out (W.contents tty.new.out)) }
-    ensures fewer { rows.new.is_asked ≡ true → rows.old.is_asked ≡ true }
-    ensures features { tty.new.features ≡ tty.old.features }
-    ensures mode { IsTrue (is_some tty.old.term.prior) → tty.new.term.prior ≡ tty.old.term.prior }
-{
-    if is_resize(event) {
-        show_anew(rt, tty, editor, prompt, rows, lists)
-    } else {
-        prompt.show(&mut tty.out, editor, rows, lists)
     }
 }
 
@@ -622,26 +314,6 @@ fn take_turn<
             Turn::Ended(read)
         }
         Taken::Refused => Turn::Failed(io::Error::from(ErrorKind::OutOfMemory)),
-    }
-}
-
-/// The window's columns and rows, for which the window is asked if the prompt doesn't know them.
-fn size_for<S: EventSource<Global>, D: ModeDevice, W: Write + Drop, C: Clock + Drop, H>(
-    tty: &mut Session<S, D, W, C>,
-    prompt: &Prompt<'_, H>,
-) -> io::Result<(u16, u16)>
-    ensures others { (tty.new.out ≡ tty.old.out) × (tty.new.pass ≡ tty.old.pass) × (tty.new.features ≡ tty.old.features) }
-    ensures mode { tty.new.term.prior ≡ tty.old.term.prior }
-{
-    if let Some(known) = prompt.size.get() {
-        return Ok(known);
-    }
-    match size_of(tty) {
-        Ok(size) => {
-            prompt.size.set(Some(size));
-            Ok(size)
-        }
-        Err(error) => Err(error),
     }
 }
 

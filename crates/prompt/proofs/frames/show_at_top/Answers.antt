@@ -4,7 +4,7 @@ use Rattle.prompt.specs.Frames.{Area, area_of}
 use Rattle.prompt.specs.Written.{Due, HasWritten, look_of}
 use Rattle.prompt.proofs.Sending.{at_err, err_with, ok_with}
 use Rattle.prompt.proofs.Showing.{empties, empties_front, shows, shows_front}
-use Rattle.prompt.proofs.asking.show_at_top.Goals as goal
+use Rattle.prompt.proofs.frames.show_at_top.Goals as goal
 
 pub returns-in-Err-clause-stops : goal.returns-in-Err-clause-stops
 returns-in-Err-clause-stops g c given w es from tabs h =

@@ -3,7 +3,7 @@ use Rattle.prompt.specs.Frames.{area_of}
 use Rattle.prompt.specs.Written.{Due, HasWritten, Resized, look_of}
 use Rattle.prompt.proofs.Sending.{err_with, ok_with}
 use Rattle.prompt.proofs.Showing.{shows, shows_front}
-use Rattle.prompt.proofs.asking.show_after.Goals as goal
+use Rattle.prompt.proofs.frames.show_after.Goals as goal
 
 pub returns-then-is_resize-clause-shows : goal.returns-then-is_resize-clause-shows
 returns-then-is_resize-clause-shows g c given w es out may tabs h =

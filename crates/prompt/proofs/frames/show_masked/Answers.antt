@@ -8,7 +8,7 @@ use Rattle.prompt.specs.Written.{masked_shown, prompt_runs}
 use Rattle.prompt.proofs.Drawn.{none}
 use Rattle.prompt.proofs.Looking.{seen_is}
 use Rattle.prompt.proofs.Sending.{err_of}
-use Rattle.prompt.proofs.asking.show_masked.Goals as goal
+use Rattle.prompt.proofs.frames.show_masked.Goals as goal
 
 pub returns-in_err-line-clause-stops : goal.returns-in_err-line-clause-stops
 returns-in_err-line-clause-stops g c =

@@ -10,7 +10,7 @@ use Rattle.prompt.specs.Written.{search_shown}
 use Rattle.prompt.proofs.Drawn.{none}
 use Rattle.prompt.proofs.Looking.{seen_is}
 use Rattle.prompt.proofs.Sending.{err_of}
-use Rattle.prompt.proofs.asking.show_search.Goals as goal
+use Rattle.prompt.proofs.frames.show_search.Goals as goal
 
 pub returns-in_err-text-clause-stops : goal.returns-in_err-text-clause-stops
 returns-in_err-text-clause-stops g c =

@@ -10,8 +10,8 @@ use Rattle.prompt.specs.Written.{line_shown, look_of, prompt_runs}
 use Rattle.prompt.proofs.Drawn.{none}
 use Rattle.prompt.proofs.Looking.{candidates_of, listed, seen_is, unlisted}
 use Rattle.prompt.proofs.Sending.{err_of}
-use Rattle.prompt.proofs.asking.show_line.Goals.{then-lists+in_ok-names, else-lists}
-use Rattle.prompt.proofs.asking.show_line.Goals as goal
+use Rattle.prompt.proofs.frames.show_line.Goals.{then-lists+in_ok-names, else-lists}
+use Rattle.prompt.proofs.frames.show_line.Goals as goal
 
 pub returns-in_err-names-clause-stops : goal.returns-in_err-names-clause-stops
 returns-in_err-names-clause-stops g c =

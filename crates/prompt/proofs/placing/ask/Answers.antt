@@ -4,7 +4,7 @@ use Rattle.crossterm.specs.Asking.{position_query}
 use Rattle.std.proofs.Common.{inl}
 use Rattle.prompt.proofs.Querying as querying
 use Rattle.prompt.proofs.Turning.{asks}
-use Rattle.prompt.proofs.asking.ask.Goals as goal
+use Rattle.prompt.proofs.placing.ask.Goals as goal
 
 pub returns-in-Ok-clause-asked : goal.returns-in-Ok-clause-asked
 returns-in-Ok-clause-asked g c =

@@ -6,7 +6,7 @@ use Rattle.prompt.specs.Written.{Due, HasWritten, Resized, look_of}
 use Rattle.prompt.proofs.Sending.{at_err, err_with, ok_with}
 use Rattle.prompt.proofs.Showing.{all_of, all_queried, erases, erases_front, moved, queried, shows, shows_front}
 use Rattle.prompt.proofs.Turning.{asked_since}
-use Rattle.prompt.proofs.asking.show_anew.Goals as goal
+use Rattle.prompt.proofs.frames.show_anew.Goals as goal
 
 pub returns-in-Err-find_start-clause-asked : goal.returns-in-Err-find_start-clause-asked
 returns-in-Err-find_start-clause-asked g c =

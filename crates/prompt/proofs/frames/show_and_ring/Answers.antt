@@ -4,7 +4,7 @@ use Rattle.prompt.specs.Frames.{area_of}
 use Rattle.prompt.specs.Written.{look_of}
 use Rattle.prompt.proofs.Sending.{at_err, err_with, ok_with}
 use Rattle.prompt.proofs.Showing.{rings, rings_front, shows, shows_front}
-use Rattle.prompt.proofs.asking.show_and_ring.Goals as goal
+use Rattle.prompt.proofs.frames.show_and_ring.Goals as goal
 
 pub returns-in-Ok-clause-shows : goal.returns-in-Ok-clause-shows
 returns-in-Ok-clause-shows g c given w es from tabs h =
