@@ -170,6 +170,12 @@ enum {
     GELVANH_DARK_CYAN, GELVANH_WHITE, GELVANH_GREY, GELVANH_RGB, GELVANH_PALETTE
 };
 
+/* How a text looks, by colours that may be none. A part of a prompt has one, as gelvanh_line.h says. */
+struct gelvanh_style {
+    struct gelvanh_color foreground, background, underline;
+    uint32_t attributes; /* a bit for each attribute, the first from bit 1 on */
+};
+
 /* Commands by their places in the list of all. A trailing comment names the fields that count. */
 enum gelvanh_command_kind {
     GELVANH_MOVE_TO,                /* first: column, second: row, from 0 */
@@ -267,6 +273,8 @@ GELVANH_CHECK(reader, sizeof(struct gelvanh_reader) == 24);
 GELVANH_CHECK(reader_held, offsetof(struct gelvanh_reader, held) == 8);
 GELVANH_CHECK(reader_arrivals, offsetof(struct gelvanh_reader, arrivals) == 16);
 GELVANH_CHECK(color, sizeof(struct gelvanh_color) == 4);
+GELVANH_CHECK(style, sizeof(struct gelvanh_style) == 16);
+GELVANH_CHECK(style_attributes, offsetof(struct gelvanh_style, attributes) == 12);
 GELVANH_CHECK(command, sizeof(struct gelvanh_command) == 24);
 GELVANH_CHECK(command_attributes, offsetof(struct gelvanh_command, attributes) == 4);
 GELVANH_CHECK(command_foreground, offsetof(struct gelvanh_command, foreground) == 12);

@@ -40,7 +40,7 @@ enum gelvanh_line_answer {
     GELVANH_LINE_CLOSED,      /* by Ctrl-D in an empty line */
     GELVANH_LINE_TOO_LONG,    /* the text has no room in the line */
     GELVANH_LINE_NO_MEMORY,   /* memory was refused */
-    GELVANH_LINE_UNKNOWN,     /* what was given is none: numbers that are no event's, a text that isn't UTF-8 */
+    GELVANH_LINE_UNKNOWN,     /* what was given is none: numbers that are no event's or no style's, a text that isn't UTF-8 */
     GELVANH_LINE_RINGS        /* the line goes on, and a bell is in place: an incremental search found nothing, or there is none to give up */
 };
 
@@ -50,12 +50,19 @@ uint32_t gelvanh_line_new(struct gelvanh_line *line, const struct gelvanh_line_l
 /* Ends it, and frees its memory. */
 void gelvanh_line_free(struct gelvanh_line line);
 
-/* Takes a prompt and how many columns and rows the window has; 0 of them, as a serial line says, count as 80 and 24. The line is shown from the
- * cursor's row on, in as many rows as it takes. Nothing is known of them then, so that the next gelvanh_line_show draws all of it: so call it for
- * each line. The line's text stays.
+/* Takes a prompt and how many columns and rows the window has; 0 of them, as a serial line says, count as 80 and 24. The prompt has no style and
+ * may be empty. The line is shown from the cursor's row on, in as many rows as it takes. Nothing is known of them then, so that the next
+ * gelvanh_line_show draws all of it: so call it for each line. The line's text stays.
  *
  * GELVANH_LINE_GOES_ON, GELVANH_LINE_NO_MEMORY, or GELVANH_LINE_UNKNOWN if the prompt isn't UTF-8 or has a control character. */
 uint32_t gelvanh_line_begin(struct gelvanh_line *line, const uint8_t *prompt, size_t length, uint16_t columns, uint16_t rows);
+
+/* Puts a part in a style behind what there is of the prompt: with the next gelvanh_line_begin the prompt has no parts again. They are shown as
+ * if colours are written, so a program that is asked for none, as by NO_COLOR, gives a style without them. A style of zeros has none.
+ *
+ * GELVANH_LINE_GOES_ON, GELVANH_LINE_NO_MEMORY, or GELVANH_LINE_UNKNOWN if the text isn't UTF-8 or has a control character, or the style has a
+ * colour of a kind that isn't listed, or bits of no attribute. */
+uint32_t gelvanh_line_prompt(struct gelvanh_line *line, const uint8_t *text, size_t length, const struct gelvanh_style *style);
 
 /* Takes another size of the window, as after SIGWINCH: the output erases the rows from the first one on, and the next gelvanh_line_show draws all of
  * them there. A terminal that has wrapped them anew by itself may leave some of them above.

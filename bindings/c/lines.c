@@ -29,13 +29,15 @@ static int put(const char *text) {
     return done;
 }
 
-/* Begins a line in a window as it is now, or goes on with it in one of another size. */
+/* Begins a line behind a green prompt in a window as it is now, or goes on with it in one of another size. */
 static int begin(int is_resized) {
+    static const struct gelvanh_style green = {{GELVANH_GREEN, 0, 0, 0}, {0, 0, 0, 0}, {0, 0, 0, 0}, 0};
     struct winsize size = {0, 0, 0, 0};
     ioctl(1, TIOCGWINSZ, &size);
     if (is_resized)
         return gelvanh_line_resize(&line, size.ws_col, size.ws_row) == GELVANH_LINE_GOES_ON;
-    return gelvanh_line_begin(&line, (const uint8_t *)"> ", 2, size.ws_col, size.ws_row) == GELVANH_LINE_GOES_ON;
+    return gelvanh_line_begin(&line, NULL, 0, size.ws_col, size.ws_row) == GELVANH_LINE_GOES_ON &&
+           gelvanh_line_prompt(&line, (const uint8_t *)"> ", 2, &green) == GELVANH_LINE_GOES_ON;
 }
 
 static int show(void) {

@@ -1,7 +1,7 @@
 //! `readline` on a terminal that is played: its lines, what it writes, and the mode that it leaves.
 
-use gelvanh::line::{read_hidden, Editor, Helper, Limits, LineError, Mask, Outcome, Terminal, Words};
-use gelvanh::{Event, KeyCode, KeyEvent, KeyModifiers};
+use gelvanh::line::{read_hidden, Editor, Helper, Limits, LineError, Mask, Outcome, Prompt, Terminal, Words};
+use gelvanh::{Attribute, Color, Event, KeyCode, KeyEvent, KeyModifiers, Style};
 use std::collections::VecDeque;
 use std::io::{self, ErrorKind, Write};
 use std::panic::{catch_unwind, AssertUnwindSafe};
@@ -239,6 +239,36 @@ fn a_second_tab_lists_and_a_password_is_hidden() {
         assert_eq!(read_hidden("PIN: ", mask, &mut terminal).expect("a line"), Outcome::Line("secret".into()));
         assert!(terminal.count("*") == stars && terminal.count("s") == 0 && terminal.count("PIN: ") == 1, "{}", terminal.shown());
     }
+}
+
+#[test]
+fn a_prompt_has_parts_in_styles() {
+    let blue = Style { foreground: Some(Color::Blue), ..Style::default() };
+    let bold = Style { attributes: Attribute::Bold.into(), ..Style::default() };
+    let prompt = Prompt::new("at ").part("~/src", blue).part("> ", bold);
+    let mut terminal = Played::new(typed("a\n"));
+    let mut editor = editor();
+    assert_eq!(editor.readline(prompt.clone(), &mut terminal).expect("a line"), Outcome::Line("a".into()));
+    let parts = "at ^[[38;5;12m~/src^[[0m^[[1m> ^[[0m";
+    // The letter is in the eleventh column, behind all parts.
+    assert!(terminal.count(parts) == 1 && terminal.count("^[[11Ga\r\n") == 1, "{}", terminal.shown());
+
+    // The next prompt has no parts, and a string is one too.
+    let mut terminal = Played::new(typed("b\n"));
+    assert_eq!(editor.readline(&"> ".to_string(), &mut terminal).expect("a line"), Outcome::Line("b".into()));
+    assert!(terminal.count("^[[K> ") == 1 && terminal.count("src") == 0, "{}", terminal.shown());
+
+    let mut terminal = Played::new(typed("ab\n"));
+    assert_eq!(read_hidden(prompt, Mask::Stars, &mut terminal).expect("a line"), Outcome::Line("ab".into()));
+    assert!(terminal.count("~/src") == 1 && terminal.count("*") == 2, "{}", terminal.shown());
+
+    let mut terminal = Played::new(typed("a\n"));
+    let torn = Prompt::new("at ").part("~", blue).part("a\tb", bold);
+    assert_eq!(editor.readline(torn, &mut terminal).expect_err("a control character").kind(), ErrorKind::InvalidInput);
+    assert!(terminal.shown.is_empty() && terminal.modes == 0 && terminal.acts.len() == 2);
+    editor.begin("", 80, 24).expect("a prompt");
+    assert_eq!(editor.add_part("\x1b", blue), Err(LineError::Prompt));
+    assert_eq!(editor.add_part("> ", Style::default()), Ok(()));
 }
 
 #[test]

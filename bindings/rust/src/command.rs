@@ -4,6 +4,8 @@ use crate::attribute::{Attribute, Attributes};
 use crate::color::Color;
 use crate::key::KeyboardEnhancementFlags;
 use crate::raw;
+#[cfg(feature = "line")]
+use crate::raw_line;
 
 /// How a text looks.
 #[derive(Clone, Copy, Debug, Default, PartialEq, Eq, Hash)]
@@ -199,6 +201,17 @@ fn style(style: &Style) -> raw::Command {
         background: there(style.background),
         underline: there(style.underline),
         ..raw::Command::default()
+    }
+}
+
+/// The numbers of a part's style.
+#[cfg(feature = "line")]
+pub fn style_of_part(style: &Style) -> raw_line::Style {
+    raw_line::Style {
+        foreground: there(style.foreground),
+        background: there(style.background),
+        underline: there(style.underline),
+        attributes: style.attributes.bits(),
     }
 }
 

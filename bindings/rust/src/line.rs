@@ -39,7 +39,9 @@
 
 mod asking;
 mod helper;
+mod prompts;
 
+use crate::command::{style_of_part, Style};
 use crate::event::Event;
 use crate::flat;
 use crate::key::{KeyCode, KeyModifiers};
@@ -51,6 +53,7 @@ use std::io::{self, Write};
 pub use crate::raw_line::Limits;
 pub use asking::{read_hidden, Terminal};
 pub use helper::{Helper, Words};
+pub use prompts::Prompt;
 
 /// What comes of an event.
 #[derive(Clone, Debug, PartialEq, Eq)]
@@ -105,7 +108,7 @@ fn done(answer: Answer) -> Result<(), LineError> {
     match answer {
         Answer::TooLong => Err(LineError::TooLong),
         Answer::NoMemory => Err(LineError::NoMemory),
-        // A `&str` is UTF-8, and an event has an event's numbers: so it is a prompt.
+        // A `&str` is UTF-8, an event has an event's numbers, and a style a style's: so it is a prompt.
         Answer::Unknown => Err(LineError::Prompt),
         Answer::GoesOn | Answer::Rings | Answer::Accepted | Answer::Interrupted | Answer::Closed => Ok(()),
     }
@@ -229,6 +232,35 @@ impl<H> Editor<H> {
         done(self.line.begin(prompt, columns, rows))?;
         self.is_tabbed = false;
         Ok(())
+    }
+
+    /// Adds a part in a style to the prompt, behind what there is of it. The next `begin` drops it.
+    ///
+    /// # Errors
+    ///
+    /// `NoMemory`, or `Prompt` if the part has a control character.
+    ///
+    /// ```
+    /// use gelvanh::line::{Editor, Limits};
+    /// use gelvanh::{Color, Style};
+    ///
+    /// let mut editor = Editor::new(Limits::default())?;
+    /// let mut out = Vec::new();
+    /// editor.begin("", 80, 24)?;
+    /// editor.add_part("$ ", Style { foreground: Some(Color::Green), ..Style::default() })?;
+    /// editor.show(&mut out)?;
+    /// assert!(String::from_utf8_lossy(&out).contains("\x1b[38;5;10m$ "));
+    /// # Ok::<(), std::io::Error>(())
+    /// ```
+    pub fn add_part(&mut self, text: &str, style: impl Into<Style>) -> Result<(), LineError> {
+        self.is_shown = false;
+        done(self.line.prompt(text, &style_of_part(&style.into())))
+    }
+
+    /// Begins a line behind a prompt of several parts.
+    fn begin_behind(&mut self, prompt: &Prompt<'_>, columns: u16, rows: u16) -> Result<(), LineError> {
+        self.begin(prompt.text, columns, rows)?;
+        prompt.parts.iter().try_for_each(|&(text, style)| self.add_part(text, style))
     }
 
     /// Takes another size of the window: the next `show` erases the line's rows, and draws them anew there.

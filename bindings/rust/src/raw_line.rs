@@ -1,6 +1,6 @@
 //! The calls of the archive of lines, as `bindings/c/gelvanh_line.h` has them.
 
-use crate::raw::Event;
+use crate::raw::{Color, Event};
 use std::mem::size_of;
 use std::ptr;
 
@@ -66,6 +66,16 @@ impl From<u32> for Answer {
     }
 }
 
+/// A style by its numbers.
+#[repr(C)]
+#[derive(Clone, Copy)]
+pub struct Style {
+    pub foreground: Color,
+    pub background: Color,
+    pub underline: Color,
+    pub attributes: u32,
+}
+
 /// What C keeps of a line.
 #[repr(C)]
 struct At(*mut u8);
@@ -73,12 +83,14 @@ struct At(*mut u8);
 const _: () = {
     assert!(size_of::<At>() == size_of::<usize>());
     assert!(size_of::<Limits>() == 40);
+    assert!(size_of::<Style>() == 16);
 };
 
 extern "C" {
     fn gelvanh_line_new(line: *mut At, limits: *const Limits) -> u32;
     fn gelvanh_line_free(line: At);
     fn gelvanh_line_begin(line: *mut At, prompt: *const u8, length: usize, columns: u16, rows: u16) -> u32;
+    fn gelvanh_line_prompt(line: *mut At, text: *const u8, length: usize, style: *const Style) -> u32;
     fn gelvanh_line_resize(line: *mut At, columns: u16, rows: u16) -> u32;
     fn gelvanh_line_hide(line: *mut At, how: u32) -> u32;
     fn gelvanh_line_list(line: *mut At, names: *const u8, length: usize) -> u32;
@@ -114,6 +126,10 @@ impl Handle {
 
     pub fn begin(&mut self, prompt: &str, columns: u16, rows: u16) -> Answer {
         unsafe { gelvanh_line_begin(&mut self.0, prompt.as_ptr(), prompt.len(), columns, rows) }.into()
+    }
+
+    pub fn prompt(&mut self, text: &str, style: &Style) -> Answer {
+        unsafe { gelvanh_line_prompt(&mut self.0, text.as_ptr(), text.len(), style) }.into()
     }
 
     pub fn resize(&mut self, columns: u16, rows: u16) -> Answer {

@@ -18,7 +18,7 @@ use std::io::{self, Write};
 use std::ops::{Deref, DerefMut};
 use std::time::Duration;
 
-pub use gelvanh::line::{Helper, Limits, LineError, Mask, Outcome, Terminal, Words};
+pub use gelvanh::line::{Helper, Limits, LineError, Mask, Outcome, Prompt, Terminal, Words};
 
 /// The terminal that `event::read` reads, and standard output.
 struct Tty;
@@ -91,7 +91,17 @@ impl<H> Editor<H> {
 
 impl<H: Helper> Editor<H> {
     /// Asks for a line from the cursor's row on, behind a prompt, until Enter, Ctrl-C, or Ctrl-D in an empty line. It returns neither
-    /// `Outcome::Going` nor `Ring`.
+    /// `Outcome::Going` nor `Ring`. The prompt is a `&str`, or a `Prompt` of parts in styles:
+    ///
+    /// ```no_run
+    /// use crossterm::line::{Editor, Limits, Prompt};
+    /// use crossterm::style::{ContentStyle, Stylize};
+    ///
+    /// let mut editor = Editor::new(Limits::default())?;
+    /// let prompt = Prompt::new("").part("~/src", ContentStyle::new().blue()).part("> ", ContentStyle::new().bold());
+    /// editor.readline(prompt)?;
+    /// # Ok::<(), std::io::Error>(())
+    /// ```
     ///
     /// Raw mode is on meanwhile, and so are pastes as events, unless this crate lacks the feature `bracketed-paste`. Both are off again however
     /// it ends; a raw mode that was on before stays on. A text without room, and a search that finds nothing, ring the bell. After a resize the rows are
@@ -101,7 +111,7 @@ impl<H: Helper> Editor<H> {
     ///
     /// `InvalidInput` if the prompt has a control character, and then nothing was done; those of `enable_raw_mode`, `read`, `poll` and of
     /// standard output; `OutOfMemory`. The editor has taken all events that were read, but one for which memory was refused.
-    pub fn readline(&mut self, prompt: &str) -> io::Result<Outcome> {
+    pub fn readline<'a>(&mut self, prompt: impl Into<Prompt<'a>>) -> io::Result<Outcome> {
         self.editor.readline(prompt, &mut Tty)
     }
 }
@@ -121,7 +131,7 @@ impl<H: Helper> Editor<H> {
 /// }
 /// # Ok::<(), std::io::Error>(())
 /// ```
-pub fn read_hidden(prompt: &str, mask: Mask) -> io::Result<Outcome> {
+pub fn read_hidden<'a>(prompt: impl Into<Prompt<'a>>, mask: Mask) -> io::Result<Outcome> {
     gelvanh::line::read_hidden(prompt, mask, &mut Tty)
 }
 

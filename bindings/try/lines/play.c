@@ -1,5 +1,5 @@
-/* Random scripts of a line, and what comes of them. Words of a script: `b80,24:3e20` begins a line with a prompt, `r40,9` is another size, `h2` hides
- * the line, `k15,97,0,0` is a key by code, value, modifiers and press, `p6162` a paste, `y6f6e650a` a history, and `s` shows.
+/* Random scripts of a line, and what comes of them. Words of a script: `b80,24:3e20` begins a line with a prompt, `q1:3e20` adds a part in a style to it,
+ * `r40,9` is another size, `h2` hides the line, `k15,97,0,0` is a key by code, value, modifiers and press, `p6162` a paste, `y6f6e650a` a history, and `s` shows.
  *
  * play scripts COUNT        prints scripts, a line each
  * play run < SCRIPTS        prints a line for each: answers, accepted lines, the text and its part before the cursor, the history, the output
@@ -57,10 +57,22 @@ static const char *const texts[] = {
     "line\nline\tend\r\n", "\x07\x1b[A", "", "  ", "0123456789012345678901234567890123456789",
 };
 static const char *const prompts[] = {"> ", "", "\xe6\xbc\xa2> ", "a long prompt for a narrow window> "};
+static const char *const parts[] = {"~/src", "> ", "", "\xe6\xbc\xa2", "e\xcc\x81 ", "tab\t", "\x1b[1m", "a part that is wide> "};
 static const char *const histories[] = {
     "", "one\n", "hello world\nhe said\nhe said\n\nlast",
     "a very long line that has no room in the limit of sixty bytes, so it is left out\nshort\n",
 };
+/* The styles of parts. The last two are none: there is no colour 20, and no attribute has the bit 1. */
+static const struct gelvanh_style styles[] = {
+    {{0, 0, 0, 0}, {0, 0, 0, 0}, {0, 0, 0, 0}, 0},
+    {{GELVANH_GREEN, 0, 0, 0}, {0, 0, 0, 0}, {0, 0, 0, 0}, 0},
+    {{GELVANH_BLUE, 0, 0, 0}, {GELVANH_WHITE, 0, 0, 0}, {0, 0, 0, 0}, 4},
+    {{GELVANH_RGB, 9, 8, 7}, {0, 0, 0, 0}, {GELVANH_PALETTE, 208, 0, 0}, 128 | 16},
+    {{0, 0, 0, 0}, {GELVANH_RESET, 0, 0, 0}, {0, 0, 0, 0}, 256},
+    {{20, 0, 0, 0}, {0, 0, 0, 0}, {0, 0, 0, 0}, 0},
+    {{GELVANH_GREEN, 0, 0, 0}, {0, 0, 0, 0}, {0, 0, 0, 0}, 4 | 1},
+};
+enum { STYLES = sizeof styles / sizeof *styles, KNOWN = STYLES - 2 };
 static const uint32_t letters[] = {'a', 'b', 'h', 'e', ' ', ' ', '-', 'Z', 0xE9, 0x6F22, 0x301, 0x1F469, 0x200D, 0x1F1E6, 0x11A8, 7};
 static const char controls[] = "aabbccdeefgghhjkklmnnppqrrrrssttuuwwyy__77";
 static const char alts[] = "bbddffyyyqzuulccttt..\\";
@@ -74,6 +86,11 @@ static void print_hex(const char *kind, const char *text) {
 static void print_begin(void) {
     printf("b%u,%u", draw(2) ? 80 : draw(40), draw(2) ? 24 : draw(6));
     print_hex(":", prompts[draw(sizeof prompts / sizeof *prompts)]);
+}
+
+static void print_part(void) {
+    printf("q%u", draw(STYLES));
+    print_hex(":", parts[draw(sizeof parts / sizeof *parts)]);
 }
 
 static void print_key(void) {
@@ -99,7 +116,12 @@ static void print_key(void) {
 
 static void print_script(void) {
     uint32_t count = 1 + draw(80);
+    uint32_t more = draw(3) == 0 ? 1 + draw(3) : 0;
     print_begin();
+    while (more-- > 0) {
+        printf(" ");
+        print_part();
+    }
     for (uint32_t i = 0; i < count; i++) {
         printf(" ");
         switch (draw(16)) {
@@ -107,7 +129,7 @@ static void print_script(void) {
             print_hex("p", texts[draw(sizeof texts / sizeof *texts)]);
             break;
         case 1:
-            switch (draw(8)) {
+            switch (draw(10)) {
             case 0: case 1:
                 print_hex("y", histories[draw(sizeof histories / sizeof *histories)]);
                 break;
@@ -116,6 +138,9 @@ static void print_script(void) {
                 break;
             case 3: case 4:
                 printf("r%u,%u", draw(2) ? 80 : draw(40), draw(2) ? 24 : draw(6));
+                break;
+            case 5: case 6:
+                print_part();
                 break;
             default:
                 print_begin();
@@ -187,6 +212,11 @@ static uint32_t act(struct player *player, const char *word) {
         player->is_shown = false;
         sscanf(word, "b%u,%u", &columns, &rows);
         return gelvanh_line_begin(&player->line, bytes, from_hex(strchr(word, ':') + 1, bytes), (uint16_t)columns, (uint16_t)rows);
+    case 'q':
+        a = (unsigned)(word[1] - '0');
+        if (a < KNOWN)
+            player->is_shown = false;
+        return gelvanh_line_prompt(&player->line, bytes, from_hex(word + 3, bytes), &styles[a]);
     case 'r':
         player->is_shown = false;
         sscanf(word, "r%u,%u", &columns, &rows);

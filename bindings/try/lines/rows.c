@@ -92,6 +92,9 @@ static void ends(void) {
 
 static void refused(void) {
     static const struct gelvanh_line_limits short_one = {3, 2, 2, 2, 0, 0};
+    static const struct gelvanh_style plain = {{0, 0, 0, 0}, {0, 0, 0, 0}, {0, 0, 0, 0}, 0};
+    static const struct gelvanh_style no_color = {{0, 0, 0, 0}, {20, 0, 0, 0}, {0, 0, 0, 0}, 0};
+    static const struct gelvanh_style no_attribute = {{0, 0, 0, 0}, {0, 0, 0, 0}, {0, 0, 0, 0}, 1};
     struct gelvanh_event none[9];
     struct gelvanh_line line = made(), small;
     size_t at;
@@ -116,6 +119,10 @@ static void refused(void) {
     CHECK(gelvanh_line_hint(&line, bytes("c\377"), 2) == GELVANH_LINE_UNKNOWN);
     CHECK(gelvanh_line_begin(&line, bytes("c\377"), 2, 80, 24) == GELVANH_LINE_UNKNOWN);
     CHECK(gelvanh_line_begin(&line, bytes("c\033"), 2, 80, 24) == GELVANH_LINE_UNKNOWN);
+    CHECK(gelvanh_line_prompt(&line, bytes("c\377"), 2, &plain) == GELVANH_LINE_UNKNOWN);
+    CHECK(gelvanh_line_prompt(&line, bytes("c\033"), 2, &plain) == GELVANH_LINE_UNKNOWN);
+    CHECK(gelvanh_line_prompt(&line, bytes("c"), 1, &no_color) == GELVANH_LINE_UNKNOWN);
+    CHECK(gelvanh_line_prompt(&line, bytes("c"), 1, &no_attribute) == GELVANH_LINE_UNKNOWN);
     CHECK(gelvanh_line_complete(&line, bytes("c\377"), 2) == GELVANH_LINE_UNKNOWN);
     CHECK(gelvanh_line_list(&line, bytes("c\377"), 2) == GELVANH_LINE_UNKNOWN);
     CHECK(gelvanh_line_hide(&line, 3) == GELVANH_LINE_UNKNOWN);
@@ -308,8 +315,21 @@ static void prompts(void) {
     gelvanh_line_free(line);
 }
 
+/* A prompt of parts in styles, up to the next one. */
+static void styled(void) {
+    static const struct gelvanh_style green = {{GELVANH_GREEN, 0, 0, 0}, {0, 0, 0, 0}, {0, 0, 0, 0}, 0};
+    static const struct gelvanh_style bold = {{0, 0, 0, 0}, {0, 0, 0, 0}, {0, 0, 0, 0}, 4};
+    struct gelvanh_line line = made();
+    CHECK(gelvanh_line_begin(&line, NULL, 0, 20, 9) == GELVANH_LINE_GOES_ON && gelvanh_line_prompt(&line, bytes("~"), 1, &green) == GELVANH_LINE_GOES_ON);
+    CHECK(gelvanh_line_prompt(&line, bytes("> "), 2, &bold) == GELVANH_LINE_GOES_ON && gelvanh_line_paste(&line, bytes("a"), 1) == GELVANH_LINE_GOES_ON);
+    CHECK(shows(&line, "\033[38;5;10m~\033[0m\033[1m> \033[0ma"));
+    CHECK(gelvanh_line_begin(&line, bytes("> "), 2, 20, 9) == GELVANH_LINE_GOES_ON && shows(&line, "> a"));
+    gelvanh_line_free(line);
+}
+
 int main(void) {
     prompts();
+    styled();
     searches();
     extremes();
     limited();

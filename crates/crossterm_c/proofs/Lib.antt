@@ -1,4 +1,3 @@
-pub mod AttributeLaws
 pub mod ClassLaws
 pub mod FeedingLaws
 pub mod HeldLaws

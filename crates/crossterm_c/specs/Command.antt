@@ -2,8 +2,6 @@
 -- place in the list of all commands, and a variant of an enum is its place in declared order.
 use Rattle.std.specs.Prelude.{◌≡◌, ◌<◌, ◌==◌, ℕ, ◌+◌, nat_le, nat_lt, if◌then◌else◌, ⊤, Bool, List, [], ◌∷◌, ◌++◌, length, take, drop, codes, slice_get, Option, Some, None}
 use Rattle.std.specs.Str.{IsUtf8}
-use Rattle.std.specs.Int.RustNames.{bit_and}
-use Rattle.std.specs.List.{filter}
 use Rattle.std.specs.Option.{option_map}
 use Rattle.crossterm_command.specs.Controls.{control, private, reset, set}
 use Rattle.base64.specs.Engines.{standard}
@@ -13,14 +11,10 @@ use Rattle.crossterm_command.specs.Tokens.OscEnd.{St}
 use Rattle.crossterm_command.specs.Tokens.Token.{Osc}
 use Rattle.crossterm_command.specs.declared.color_output.ColorOutput.{ColorOutput}
 use Rattle.crossterm_command.specs.declared.color_output.ColorOutput.TheVariants.{Enabled, Disabled}
-use Rattle.crossterm_style.specs.AttributeSet.{AttributeSet}
-use Rattle.crossterm_style.specs.Attributes.{all_attributes, bit_of, of_list}
 use Rattle.crossterm_style.specs.Acts.{attribute_acts, style_acts}
 use Rattle.crossterm_style.specs.Styles.{attribute_functions, color_functions, colors_functions, reset_functions, styled_text, act_tokens}
 use Rattle.crossterm_style.specs.declared.content_style.ContentStyle.{ContentStyle}
-use Rattle.crossterm_style.specs.declared.types.attribute.Attribute.{Attribute}
 use Rattle.crossterm_style.specs.declared.types.color.Color.{Color}
-use Rattle.crossterm_style.specs.declared.types.color.Color.TheVariants as color
 use Rattle.crossterm_style.specs.declared.types.colored.Colored.TheVariants.{ForegroundColor, BackgroundColor, UnderlineColor}
 use Rattle.crossterm_style.specs.declared.types.colors.Colors.{Colors}
 use Rattle.crossterm.specs.Sequences.{all_shapes, by, clear, cursor_style, disable_mouse, enable_mouse, move_to, push_flags, scroll, set_size}
@@ -28,7 +22,7 @@ use Rattle.crossterm.specs.declared.cursor.SetCursorStyle.{SetCursorStyle}
 use Rattle.crossterm.specs.declared.terminal.ClearType.{ClearType}
 use Rattle.crossterm_flags.specs.Variants.{all}
 use Rattle.crossterm.specs.Values.{clears}
-use Rattle.crossterm_c.specs.declared.color.GelvanhColor.{GelvanhColor}
+use Rattle.numbers.specs.Style.{attribute_at, attributes_at, color_of_kind, style_at, there_at}
 use Rattle.crossterm_c.specs.declared.command.GelvanhCommand.{GelvanhCommand}
 use Rattle.crossterm_c.specs.declared.outlet.Outcome.{Outcome}
 use Rattle.crossterm_c.specs.declared.outlet.Outcome.TheVariants.{Written, TooSmall, NamesNothing, Failed}
@@ -41,59 +35,9 @@ shape_at n = slice_get all_shapes n
 abbrev pub cleared_at : ℕ → Option ClearType
 cleared_at n = slice_get (all clears) n
 
--- The attribute at a place in declared order, or `None` if there is none.
-abbrev pub attribute_at : ℕ → Option Attribute
-attribute_at n = slice_get all_attributes n
-
--- The colour of a kind: 1 to 17 by name, 18 by its three parts, 19 by its number in the palette, which is `r`. Other
--- kinds give `None`.
-abbrev pub color_of_kind : GelvanhColor → Option Color
-color_of_kind c =
-    if c.kind == 1 then Some color.Reset else
-    if c.kind == 2 then Some color.Black else
-    if c.kind == 3 then Some color.DarkGrey else
-    if c.kind == 4 then Some color.Red else
-    if c.kind == 5 then Some color.DarkRed else
-    if c.kind == 6 then Some color.Green else
-    if c.kind == 7 then Some color.DarkGreen else
-    if c.kind == 8 then Some color.Yellow else
-    if c.kind == 9 then Some color.DarkYellow else
-    if c.kind == 10 then Some color.Blue else
-    if c.kind == 11 then Some color.DarkBlue else
-    if c.kind == 12 then Some color.Magenta else
-    if c.kind == 13 then Some color.DarkMagenta else
-    if c.kind == 14 then Some color.Cyan else
-    if c.kind == 15 then Some color.DarkCyan else
-    if c.kind == 16 then Some color.White else
-    if c.kind == 17 then Some color.Grey else
-    if c.kind == 18 then Some (color.Rgb c.r c.g c.b) else
-    if c.kind == 19 then Some (color.AnsiValue c.r) else
-    None
-
--- A colour that may be missing: with the kind 0 it is. Unknown kinds give `None`.
-abbrev pub there_at : GelvanhColor → Option (Option Color)
-there_at c = if c.kind == 0 then Some None else option_map Some (color_of_kind c)
-
--- Whether bits have the bit of an attribute.
-abbrev pub includes : ℕ → Attribute → Bool
-includes bits a = bit_and bits (bit_of a) == bit_of a
-
--- The bits of all attributes whose bits are among these.
-unfoldable pub known_of : ℕ → ℕ
-known_of bits = of_list (filter (includes bits) all_attributes)
-
--- The set of attributes of some bits, or `None` if other bits are set.
-abbrev pub attributes_at : ℕ → Option AttributeSet
-attributes_at bits = if known_of bits == bits then Some (record { 0 = bits }) else None
-
--- The style of three colours and a set of attributes, or `None` if one of them isn't valid.
-abbrev styled_by : Option (Option Color) → Option (Option Color) → Option (Option Color) → Option AttributeSet → Option ContentStyle
-styled_by (Some f) (Some b) (Some u) (Some a) = Some (record { foreground_color = f; background_color = b; underline_color = u; attributes = a })
-styled_by _ _ _ _ = None
-
--- The style of a command, or `None` if a part of it isn't valid.
-abbrev pub style_at : GelvanhCommand → Option ContentStyle
-style_at c = styled_by (there_at c.foreground) (there_at c.background) (there_at c.underline) (attributes_at c.attributes)
+-- The style of a command's three colours and attributes, or `None` if one of them isn't valid.
+abbrev pub command_style : GelvanhCommand → Option ContentStyle
+command_style c = style_at (record { foreground = c.foreground; background = c.background; underline = c.underline; attributes = c.attributes })
 
 -- The text of a command of the cursor, which has a kind from 0 to 15. Other kinds and unknown shapes give `None`.
 abbrev pub cursor_text : GelvanhCommand → Option (List ℕ)
@@ -165,7 +109,7 @@ style_text colors c =
     if c.kind == 38 then option_map (λ s. text_of (colors_functions colors s.foreground s.background)) (colors_at c) else
     if c.kind == 39 then option_map (λ s. text_of (attribute_functions s)) (attribute_at c.first) else
     if c.kind == 40 then option_map (λ s. text_of (act_tokens colors (attribute_acts s.0))) (attributes_at c.attributes) else
-    if c.kind == 41 then option_map (λ s. text_of (act_tokens colors (style_acts s))) (style_at c) else
+    if c.kind == 41 then option_map (λ s. text_of (act_tokens colors (style_acts s))) (command_style c) else
     if c.kind == 43 then Some (text_of reset_functions) else
     None
 
@@ -184,7 +128,7 @@ printed_by colors None text = None
 
 -- A text in the style of a command, or `None` if the style isn't valid.
 abbrev pub printed : ColorOutput → GelvanhCommand → List ℕ → Option (List ℕ)
-printed colors c text = printed_by colors (style_at c) text
+printed colors c text = printed_by colors (command_style c) text
 
 -- The operating system command 52, which copies bytes in base64 to the places of these letters.
 abbrev pub copied : List ℕ → List ℕ → List Token

@@ -8,9 +8,9 @@ mod style;
 mod terminal;
 pub(crate) mod text;
 
-use crate::color::GelvanhColor;
 use crate::outlet::Answer;
 use crossterm::style::ColorOutput;
+use numbers::GelvanhColor;
 
 /// A command that has no text of its own. Which fields count depends on its kind.
 #[repr(C)]

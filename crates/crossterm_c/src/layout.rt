@@ -1,10 +1,9 @@
 //! The sizes of what C hands over, which `gelvanh.h` checks too.
 
-use crate::color::GelvanhColor;
 use crate::command::GelvanhCommand;
 use crate::held::{GelvanhHeld, GelvanhReader};
 use crate::state::GelvanhState;
-use numbers::GelvanhEvent;
+use numbers::{GelvanhColor, GelvanhEvent, GelvanhStyle};
 use std::mem::{align_of, size_of};
 
 const _: () = prove!(size_of::<GelvanhState>() == 52);
@@ -22,5 +21,7 @@ const _: () = prove!(align_of::<GelvanhHeld>() == 8);
 const _: () = prove!(size_of::<GelvanhReader>() == 24);
 
 const _: () = prove!(size_of::<GelvanhColor>() == 4);
+
+const _: () = prove!(size_of::<GelvanhStyle>() == 16);
 
 const _: () = prove!(size_of::<GelvanhCommand>() == 24);

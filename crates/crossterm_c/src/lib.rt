@@ -1,9 +1,9 @@
 //! A door for C and Rust: the parser, the reader and the commands by numbers and slices.
 //!
-//! It is built on `crossterm_parse`, `crossterm` and events as `numbers`, and its contracts on `crossterm_read` too. The parser's state is a struct of numbers that
+//! It is built on `crossterm_parse`, `crossterm`, and events and styles as `numbers`, and its contracts on `crossterm_read` too. The parser's state is a struct of numbers that
 //! the caller keeps, so no call needs memory, and none blocks. `gelvanh_feed` follows the only division of the bytes as `Parser::advance`
 //! does (`specs/Feeding.antt`); what the numbers of a state and of a command mean is `specs/State.antt` and `specs/Command.antt`,
-//! and what those of an event mean is the crate `numbers`. Events are held in the caller's table, and taken by class, as `InternalEventReader` does (`specs/Held.antt`). The
+//! and what those of an event and of a style mean is the crate `numbers`. Events are held in the caller's table, and taken by class, as `InternalEventReader` does (`specs/Held.antt`). The
 //! header for C is `bindings/c/gelvanh.h`.
 //!
 //! What is proved, beyond safety:
@@ -24,14 +24,13 @@
 //! | `Feeding` | 39 | what a call does that takes bytes | `gelvanh_feed` |
 //! | `Held` | 91 | events that are held, and their classes | `gelvanh_hold`, `gelvanh_holds`, `gelvanh_take`, `gelvanh_feed_held`, `gelvanh_take_some` |
 //! | `Text` | 24 | the text of a paste, piece by piece | `gelvanh_paste_text` |
-//! | `Command` | 226 | commands as numbers, and their texts | `gelvanh_command`, `gelvanh_print` and the like |
+//! | `Command` | 170 | commands as numbers, and their texts | `gelvanh_command`, `gelvanh_print` and the like |
 //! | `Outlet` | 10 | a slice that takes what fits | the same |
 //!
 //! A function's proof is in `proofs/` at the function's path; if there is no file, the prover found it by itself.
 #![tactic(auto)]
 
 mod batches;
-mod color;
 mod command;
 mod feed;
 mod held;

@@ -1,19 +1,20 @@
 -- A frame that joins the output.
-use Rattle.std.proofs.Common.{◌≡◌, ℕ, Bool, true, false, List, [], ◌++◌, Option, Some, Bor, map, refl, sym, subst, ap, ◌∙◌}
+use Rattle.std.proofs.Common.{◌≡◌, ℕ, Bool, true, false, List, ◌++◌, Option, Some, Bor, map, refl, sym, subst, ap, ◌∙◌}
 use Rattle.std.proofs.lemmas.List.{append_assoc}
 use Rattle.std.specs.Prelude.{Result, Ok, Err, OnErr, OnOk}
 use Rattle.std.specs.Str.Lines.{lines}
+use Rattle.crossterm_style.specs.declared.styled_content.StyledContent.{StyledContent}
 use Rattle.line_editor.specs.declared.masks.Mask.{Mask}
 use Rattle.prompt.specs.Completing.{as_read}
 use Rattle.prompt.specs.Frames.{Area, Draws, DrawsFront, IsLineFrame}
-use Rattle.prompt.specs.Shown.{PromptRun, Shown, runs_of}
+use Rattle.prompt.specs.Shown.{PromptRun, Shown, run_of, runs_of}
 use Rattle.prompt.specs.Written.{PromptView, look_of, prompt_runs, shown_for}
 use Rattle.prompt.specs.declared.asking.Prompt.{Prompt}
 use Rattle.line_c.specs.declared.answers.Answer.TheVariants.{GoesOn}
 use Rattle.line_c.specs.declared.given.Given.{Given}
 use Rattle.line_c.specs.declared.given.Listed.{Listed}
 use Rattle.line_c.specs.Answers.{FindsArea, ShowsLine, before_frame, lists, look_at, names_listed}
-use Rattle.line_c.specs.Kept.{LineState}
+use Rattle.line_c.specs.Kept.{LineState, whole_prompt}
 
 -- A fact that holds at a value that came.
 pub at_ok : {X E : Type 0} {r : Result X E} {x : X} {P : Type 0} → r ≡ Ok x → OnOk r P → P
@@ -39,15 +40,20 @@ look_by prompt hint which names mask asks wraps = record {
 abbrev pub look_with : Prompt Given → Given → PromptView
 look_with p g = look_of as_read (λ _. g.hint.now) (λ before _. names_listed g.listed before (map (λ n. n.now) g.names.now)) p
 
+-- A prompt has the parts of a text and of contents behind it.
+pub runs_are : (k : LineState) (text : List ℕ) (parts : List (StyledContent (Bor (List ℕ)))) → text ≡ k.prompt → map run_of parts ≡ k.parts → runs_of text parts ≡ whole_prompt k
+runs_are k text parts is are =
+    ap (λ (t : List ℕ). whole_prompt (record k { prompt = t; parts = map run_of parts })) is ∙ ap (λ (ps : List PromptRun). whole_prompt (record k { parts = ps })) are
+
 -- It looks as the definition says.
-pub look_is : (k : LineState) (p : Prompt Given) (g : Given) → prompt_runs p ≡ runs_of k.prompt [] → p.mask ≡ k.mask → p.asks ≡ true → p.wraps ≡ true
+pub look_is : (k : LineState) (p : Prompt Given) (g : Given) → prompt_runs p ≡ whole_prompt k → p.mask ≡ k.mask → p.asks ≡ true → p.wraps ≡ true
     → g.hint.now ≡ k.hint → g.listed ≡ k.listed → map (λ n. n.now) g.names.now ≡ lines k.names → look_with p g ≡ look_at k
 look_is k p g runs mask asks wraps hint which names =
     let all = map (λ (n : Bor (List ℕ)). n.now) g.names.now in
-    ap (λ x. look_by x g.hint.now g.listed all p.mask p.asks p.wraps) runs ∙ ap (λ x. look_by (runs_of k.prompt []) x g.listed all p.mask p.asks p.wraps) hint
-    ∙ ap (λ x. look_by (runs_of k.prompt []) k.hint x all p.mask p.asks p.wraps) which ∙ ap (λ x. look_by (runs_of k.prompt []) k.hint k.listed x p.mask p.asks p.wraps) names
-    ∙ ap (λ x. look_by (runs_of k.prompt []) k.hint k.listed (lines k.names) x p.asks p.wraps) mask ∙ ap (λ x. look_by (runs_of k.prompt []) k.hint k.listed (lines k.names) k.mask x p.wraps) asks
-    ∙ ap (λ x. look_by (runs_of k.prompt []) k.hint k.listed (lines k.names) k.mask true x) wraps
+    ap (λ x. look_by x g.hint.now g.listed all p.mask p.asks p.wraps) runs ∙ ap (λ x. look_by (whole_prompt k) x g.listed all p.mask p.asks p.wraps) hint
+    ∙ ap (λ x. look_by (whole_prompt k) k.hint x all p.mask p.asks p.wraps) which ∙ ap (λ x. look_by (whole_prompt k) k.hint k.listed x p.mask p.asks p.wraps) names
+    ∙ ap (λ x. look_by (whole_prompt k) k.hint k.listed (lines k.names) x p.asks p.wraps) mask ∙ ap (λ x. look_by (whole_prompt k) k.hint k.listed (lines k.names) k.mask x p.wraps) asks
+    ∙ ap (λ x. look_by (whole_prompt k) k.hint k.listed (lines k.names) k.mask true x) wraps
 
 -- Bytes grew by a frame, or by a beginning of one.
 pub front_of : {X E : Type 0} (r : Result X E) (s : Shown) (a b : Area) (old new out : List ℕ) → OnOk r (Draws s a b (Some old) (Some new)) → OnErr r (DrawsFront s a (Some old) (Some new))

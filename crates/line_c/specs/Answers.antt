@@ -1,7 +1,8 @@
 -- What the calls answer, and what each answer says of what is kept.
-use Rattle.std.specs.Prelude.{◌≡◌, ◌<◌, ◌≤◌, ℕ, ◌-◌, ◌++◌, ◌==◌, Bool, true, false, drop, encode_utf8_all, length, reverse, take, List, [], Option, Some, None, if◌then◌else◌}
+use Rattle.std.specs.Prelude.{◌≡◌, ◌<◌, ◌≤◌, ℕ, ◌-◌, ◌++◌, ◌==◌, Bool, true, false, drop, encode_utf8_all, length, reverse, take, List, [], ◌∷◌, Option, Some, None, if◌then◌else◌}
 use Rattle.std.specs.Str.{IsUtf8, chars}
 use Rattle.std.specs.Str.Lines.{lines}
+use Rattle.crossterm_style.specs.declared.content_style.ContentStyle.{ContentStyle}
 use Rattle.crossterm_types.specs.Seen.{Seen, Paste}
 use Rattle.line_editor.specs.declared.fault.EditFault.{EditFault}
 use Rattle.line_editor.specs.declared.fault.EditFault.TheVariants as fault
@@ -15,13 +16,13 @@ use Rattle.line_c.specs.declared.answers.Answer.{Answer}
 use Rattle.line_c.specs.declared.answers.Answer.TheVariants.{GoesOn, Accepted, Interrupted, Closed, TooLong, NoMemory, Unknown, Rings}
 use Rattle.line_c.specs.declared.given.Listed.{Listed}
 use Rattle.line_c.specs.declared.given.Listed.TheVariants as listed
-use Rattle.line_c.specs.Kept.{AreaAfter, LineState, after_input, unlisted}
+use Rattle.line_c.specs.Kept.{AreaAfter, LineState, after_input, unlisted, whole_prompt}
 use Rattle.line_editor.specs.declared.masks.Mask.{Mask}
 use Rattle.line_editor.specs.declared.masks.Mask.TheVariants as mask
 use Rattle.prompt.specs.Completing.{as_read}
 use Rattle.prompt.specs.Drawing.{clearing}
 use Rattle.prompt.specs.Frames.{Area, Draws, IsNewArea, IsSizeOf, IsUnseen, erasure, resized_area, unseen}
-use Rattle.prompt.specs.Shown.{runs_of}
+use Rattle.prompt.specs.Shown.{PromptRun}
 use Rattle.prompt.specs.Words.{completion_among, word_at_end, names_among}
 use Rattle.prompt.specs.Written.{PromptView, shown_for}
 use Rattle.screen.specs.Blocks.{without_place}
@@ -90,7 +91,7 @@ IsAreaOf columns rows a = IsNewArea true a × (a.block.width ≡ columns - 1) ×
 pub record IsFresh (limits : Limits) (k : LineState) : Type 0 where
   pub editor : k.editor ≡ fresh limits
   pub area : IsAreaOf 80 24 k.area
-  pub texts : (k.prompt ≡ []) × (k.hint ≡ []) × (k.names ≡ []) × (k.accepted ≡ [])
+  pub texts : (k.prompt ≡ []) × (k.parts ≡ []) × (k.hint ≡ []) × (k.names ≡ []) × (k.accepted ≡ [])
   pub shows : (k.completed ≡ false) × (k.listed ≡ listed.Nothing) × (k.mask ≡ None)
   pub output : (k.clears ≡ false) × (k.output ≡ [])
 
@@ -98,14 +99,31 @@ pub record IsFresh (limits : Limits) (k : LineState) : Type 0 where
 abbrev pub counted : ℕ → ℕ → ℕ
 counted count usual = if count == 0 then usual else count
 
--- A line was begun with a prompt, in a window of so many columns and rows. A prompt with a control character is none.
+-- A line was begun with a prompt of this text alone, in a window of so many columns and rows. A prompt with a control
+-- character is none.
 abbrev pub BeginsLine : List ℕ → ℕ → ℕ → Answer → LineState → LineState → Type 0
 BeginsLine prompt columns rows GoesOn k l =
     (has_control (chars prompt) ≡ false) × IsAreaOf (counted columns 80) (counted rows 24) l.area
-    × (l ≡ record (unlisted k) { prompt = prompt; area = l.area; clears = false })
+    × (l ≡ record (unlisted k) { prompt = prompt; parts = []; area = l.area; clears = false })
 BeginsLine prompt columns rows NoMemory k l = l ≡ k
 BeginsLine prompt columns rows Unknown k l = (has_control (chars prompt) ≡ true) × (l ≡ k)
 BeginsLine prompt columns rows a k l = ⊥
+
+-- The state with one more part of the prompt, behind the others.
+abbrev pub with_part : PromptRun → LineState → LineState
+with_part part k = record k { parts = k.parts ++ part ∷ [] }
+
+-- A part was added to the prompt. One with a control character is none.
+abbrev pub AddsRun : PromptRun → Answer → LineState → LineState → Type 0
+AddsRun part GoesOn k l = (has_control (chars part.text) ≡ false) × (l ≡ with_part part k)
+AddsRun part NoMemory k l = l ≡ k
+AddsRun part Unknown k l = (has_control (chars part.text) ≡ true) × (l ≡ k)
+AddsRun part a k l = ⊥
+
+-- A text was added to the prompt in a style, if the numbers were one.
+abbrev pub AddsPart : Option ContentStyle → List ℕ → Answer → LineState → LineState → Type 0
+AddsPart None text a k l = (a ≡ Unknown) × (l ≡ k)
+AddsPart (Some style) text a k l = AddsRun (record { text = text; style = style }) a k l
 
 -- The window got another size: the output erases the area from its first row on, and nothing is known of it then.
 abbrev pub Resizes : ℕ → ℕ → Answer → LineState → LineState → Type 0
@@ -140,7 +158,7 @@ names_listed listed.Beginning before names = names_among (word_at_end before) na
 abbrev pub look_at : LineState → PromptView
 look_at k = record {
   given = as_read;
-  prompt = runs_of k.prompt [];
+  prompt = whole_prompt k;
   hints = λ _. k.hint;
   candidates = λ before _. names_listed k.listed before (lines k.names);
   mask = k.mask;

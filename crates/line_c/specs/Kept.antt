@@ -1,11 +1,13 @@
 -- What a handle keeps: an editor, with the rows in which its line is shown.
-use Rattle.std.specs.Prelude.{◌≡◌, ℕ, Bool, true, false, List, ◌++◌, Option}
+use Rattle.std.specs.Prelude.{◌≡◌, ℕ, Bool, true, false, List, ◌∷◌, ◌++◌, Option}
 use Rattle.line_editor.specs.States.{EditorState}
 use Rattle.line_editor.specs.declared.masks.Mask.{Mask}
 use Rattle.line_editor.specs.Turns as turns
 use Rattle.line_editor.specs.Turns.{task_of, turned}
+use Rattle.crossterm_style.specs.Styles.{no_style}
 use Rattle.crossterm_types.specs.Seen.{Seen}
 use Rattle.prompt.specs.Frames.{Area, leaving_area, unseen}
+use Rattle.prompt.specs.Shown.{PromptRun}
 use Rattle.line_c.specs.declared.given.Listed.{Listed}
 use Rattle.line_c.specs.declared.given.Listed.TheVariants as listed
 
@@ -14,7 +16,9 @@ pub record LineState : Type 0 where
   pub editor : EditorState
   -- The rows in which the line is shown.
   pub area : Area
+  -- The prompt: a text without a style, and the parts behind it.
   pub prompt : List ℕ
+  pub parts : List PromptRun
   -- The text that is shown behind the line while the cursor is at its end.
   pub hint : List ℕ
   -- Names in lines, and which of them are listed below the line.
@@ -30,6 +34,10 @@ pub record LineState : Type 0 where
   pub clears : Bool
   -- What is still to be written to the terminal.
   pub output : List ℕ
+
+-- All parts of the prompt.
+abbrev pub whole_prompt : LineState → List PromptRun
+whole_prompt k = record { text = k.prompt; style = no_style } ∷ k.parts
 
 -- The state once something else was done than to complete the line: no names are listed.
 abbrev pub unlisted : LineState → LineState

@@ -19,7 +19,7 @@ pub enum Answer {
     TooLong,
     /// Memory was refused. Nothing has changed, but after a frame that isn't there: then the next one draws all rows.
     NoMemory,
-    /// The numbers are no event's, a text isn't UTF-8, or a prompt has a control character. Nothing has changed.
+    /// The numbers are no event's or no style's, a text isn't UTF-8, or a prompt has a control character. Nothing has changed.
     Unknown,
     /// The line goes on, and the bell rings: an incremental search found nothing, or there is none to give up.
     Rings,

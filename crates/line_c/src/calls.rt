@@ -3,15 +3,16 @@ ghost use Rattle.std.specs.Prelude.{◌≡◌, reverse};
 ghost use Rattle.line_editor.specs.Bounds.{size};
 ghost use Rattle.line_editor.specs.Splits.{line_text};
 ghost use Rattle.numbers.specs.Event.{event_known};
+ghost use Rattle.numbers.specs.Style.{style_at};
 ghost use Rattle.line_c.specs.Begun.{OpensLine, limits_of};
-ghost use Rattle.line_c.specs.Answers.{BeginsLine, CompletesLine, Copies, CopiesHistory, MakesOf, MasksAs, Moves, Resizes, ReturnsAnswer, ShowsLine, TakesInput, TakesText, WithText, mask_at, with_hint, with_history, with_names};
+ghost use Rattle.line_c.specs.Answers.{AddsPart, BeginsLine, CompletesLine, Copies, CopiesHistory, MakesOf, MasksAs, Moves, Resizes, ReturnsAnswer, ShowsLine, TakesInput, TakesText, WithText, mask_at, with_hint, with_history, with_names};
 
 use crate::answers::Answer;
 use crate::keeping::{LineHandle, LineSlot};
 use crate::lines::made;
 use handle::Parts;
 use line_editor::Limits;
-use numbers::GelvanhEvent;
+use numbers::{GelvanhEvent, GelvanhStyle};
 use std::alloc::Global;
 
 /// The bounds of an editor, as those of `line_editor::Limits`.
@@ -69,7 +70,8 @@ pub extern "C" fn gelvanh_line_free(alloc: Global, line: LineHandle) {
     let _kept = line.parts(alloc).into_box();
 }
 
-/// Begins a line with a prompt in UTF-8, in a window of so many columns and rows, of which nothing is known. 0 of them count as 80 and 24.
+/// Begins a line with a prompt in UTF-8, which has no style, in a window of so many columns and rows, of which nothing is known. 0 of them count as
+/// 80 and 24.
 #[unsafe(no_mangle)]
 pub extern "C" fn gelvanh_line_begin(
     line: &mut LineHandle,
@@ -80,6 +82,18 @@ pub extern "C" fn gelvanh_line_begin(
     ensures { ReturnsAnswer result (WithText prompt.now (BeginsLine prompt.now columns rows)) line.old.value line.new.value }
 {
     line.open().begin(prompt, columns, rows).number()
+}
+
+/// Adds a part to the prompt behind what there is of it, in UTF-8 and in a style.
+#[unsafe(no_mangle)]
+pub extern "C" fn gelvanh_line_prompt(
+    line: &mut LineHandle,
+    text: &[u8],
+    style: &GelvanhStyle,
+) -> u32
+    ensures { ReturnsAnswer result (WithText text.now (AddsPart (style_at style.now) text.now)) line.old.value line.new.value }
+{
+    line.open().prompt(text, style).number()
 }
 
 /// Takes another size of the window: the output erases the line's rows, which the next frame draws anew. 0 columns or rows count as 80 and 24.

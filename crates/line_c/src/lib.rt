@@ -3,7 +3,7 @@
 //! A `LineHandle` is a pointer that C keeps, to an editor with the rows in which its line is shown. Events come as the numbers of the other
 //! archive, and what is to be written to the terminal is handed out piece by piece. The header for C is `bindings/c/gelvanh_line.h`.
 //!
-//! It is built on `line_editor`, on the rows of `prompt`, on events as `numbers`, and on `handle` for the box behind the pointer. All raw pointers
+//! It is built on `line_editor`, on the rows of `prompt`, on events and styles as `numbers`, and on `handle` for the box behind the pointer. All raw pointers
 //! are in `keeping.rt`. A caller in C owes that a handle came from `gelvanh_line_new`, is used by one thread at a time,
 //! and isn't used after `gelvanh_line_free`.
 //!
@@ -16,6 +16,7 @@
 //! | the same of a pasted text | `gelvanh_line_paste` |
 //! | once a line has ended its rows are left, and the text of an accepted one is kept | `gelvanh_line_event`, `gelvanh_line_accepted` |
 //! | a frame makes some rows show the line behind its prompt, wrapped, with its hint or the names below it, and changes nothing else; stars or nothing are in the place of a hidden line | `gelvanh_line_show` |
+//! | a prompt is its text and the parts behind it, each in its style; a part with a control character and numbers that are no style's are refused | `gelvanh_line_begin`, `gelvanh_line_prompt`, `gelvanh_line_show` |
 //! | names complete a word by what they have in common, and are listed at the second time in a row | `gelvanh_line_complete` |
 //! | what is to be written is handed out once and in order, none of it lost | `gelvanh_line_output` |
 //! | a text that is too long and refused memory are two answers, and leave all as it was | each |
@@ -39,6 +40,7 @@ mod calls;
 mod given;
 mod keeping;
 mod lines;
+mod styled;
 
 pub use answers::Answer;
 pub use calls::LineLimits;

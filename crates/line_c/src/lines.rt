@@ -6,19 +6,22 @@ ghost use Rattle.crossterm_types.specs.Seen.{seen_event};
 ghost use Rattle.line_editor.specs.Bounds.{size};
 ghost use Rattle.line_editor.specs.Splits.{line_text};
 ghost use Rattle.numbers.specs.Event.{event_known};
+ghost use Rattle.numbers.specs.Style.{style_at};
 ghost use Rattle.prompt.specs.Frames.{Draws, IsSizeOf};
 ghost use Rattle.prompt.specs.Prompts.{has_control};
 ghost use Rattle.prompt.specs.Shown.{runs_of};
 ghost use Rattle.prompt.specs.Written.{prompt_runs, shown_for};
 ghost use Rattle.line_c.specs.declared.answers.Answer.TheVariants.{GoesOn};
 ghost use Rattle.line_c.specs.Kept.{unlisted};
-ghost use Rattle.line_c.specs.Answers.{BeginsLine, CompletesLine, Copies, CopiesHistory, FindsArea, IsFresh, MakesOf, MasksAs, Moves, Resizes, ShowsLine, TakesInput, TakesText, WithText, before_frame, completed_by, counted, lists, look_at, mask_at, with_hint, with_history, with_names};
+ghost use Rattle.line_c.specs.Answers.{AddsPart, AddsRun, BeginsLine, CompletesLine, Copies, CopiesHistory, FindsArea, IsFresh, MakesOf, MasksAs, Moves, Resizes, ShowsLine, TakesInput, TakesText, WithText, before_frame, completed_by, counted, lists, look_at, mask_at, with_hint, with_history, with_names, with_part};
 
 use crate::answers::{Answer, answer_to};
 use crate::given::{Given, Listed};
+use crate::styled::{StyledText, borrow_all};
+use crossterm_style::{ContentStyle, StyledContent};
 use crossterm_types::event::{Event, InternalEvent};
 use line_editor::{EditFault, Editor, Limits, Mask, Outcome};
-use numbers::{GelvanhEvent, event_of};
+use numbers::{GelvanhEvent, GelvanhStyle, event_of, style_of};
 use prompt::{Helper, Prompt, Rows, Words};
 use std::alloc::{AllocError, Global};
 use std::collections::VecDeque;
@@ -32,6 +35,8 @@ pub struct Lines {
     editor: Editor,
     rows: Rows,
     prompt: String,
+    // The prompt's parts behind that text.
+    parts: Vec<StyledText>,
     // What is shown behind the line.
     hint: String,
     // Names in lines, and which of them are listed below the line.
@@ -60,6 +65,7 @@ impl Model for Lines {
       editor = l.editor;
       area = area_of l.rows;
       prompt = string_bytes l.prompt;
+      parts = l.parts.items;
       hint = string_bytes l.hint;
       names = string_bytes l.names;
       listed = l.listed;
@@ -85,14 +91,20 @@ fn names_in(alloc: Global, text: &str) -> Result<Vec<&str>, AllocError>
     text.lines().collect(alloc)
 }
 
-/// A prompt of this text, with what a caller has given. Something else is shown in the line's place, if nobody is to read it.
-fn prompt_with<'a>(text: &'a str, mask: Option<Mask>, given: &'a Given<'a>) -> Prompt<'a, Given<'a>>
-    ensures runs { prompt_runs result ≡ runs_of text.now [] }
+/// A prompt of this text and of the parts behind it, with what a caller has given. Something else is shown in the line's place, if nobody is to read
+/// it.
+fn prompt_with<'a>(
+    text: &'a str,
+    parts: &'a [StyledContent<&'a str>],
+    mask: Option<Mask>,
+    given: &'a Given<'a>,
+) -> Prompt<'a, Given<'a>>
+    ensures runs { prompt_runs result ≡ runs_of text.now parts.now }
     ensures mask { result.mask ≡ mask }
     ensures given { result.helper.now ≡ given.now }
     ensures usual { (result.asks ≡ true) × (result.wraps ≡ true) }
 {
-    let prompt = Prompt::new(text).with_helper(given);
+    let prompt = Prompt::new(text).with_parts(parts).with_helper(given);
     match mask {
         None => prompt,
         Some(mask) => prompt.with_mask(mask),
@@ -124,6 +136,7 @@ fn started(alloc: Global, limits: Limits) -> Result<Lines, EditFault>
         editor,
         rows,
         prompt: String::new(alloc),
+        parts: Vec::new(alloc),
         hint: String::new(alloc),
         names: String::new(alloc),
         listed: Listed::Nothing,
@@ -158,6 +171,7 @@ impl Lines {
         let prompt = String::from_str(self.alloc, prompt)?;
         self.rows = Rows::new(self.alloc, (counted(columns, 80), counted(rows, 24)))?;
         self.prompt = prompt;
+        self.parts.clear();
         self.clears = false;
         self.unlist();
         Ok(())
@@ -182,6 +196,49 @@ impl Lines {
     {
         match str::from_utf8(prompt) {
             Ok(text) => self.begin_with(text, columns, rows),
+            Err(_) => Answer::Unknown,
+        }
+    }
+
+    /// Adds a part to the prompt.
+    fn keep_part(&mut self, text: &str, style: ContentStyle) -> Result<(), AllocError>
+        ensures ok { OnOk result (self.new ≡ with_part (record { text = text.now; style = style }) self.old) }
+        ensures err { OnErr result (self.new ≡ self.old) }
+    {
+        let text = String::from_str(self.alloc, text)?;
+        self.parts.push(StyledText::new(text, style))?;
+        Ok(())
+    }
+
+    /// The same, if the part has no control character.
+    fn add_part(&mut self, text: &str, style: ContentStyle) -> Answer
+        ensures { AddsRun (record { text = text.now; style = style }) result self.old self.new }
+    {
+        if !prompt::is_shown(text) {
+            return Answer::Unknown;
+        }
+        match self.keep_part(text, style) {
+            Ok(()) => Answer::GoesOn,
+            Err(_) => Answer::NoMemory,
+        }
+    }
+
+    /// The same with the style of some numbers, if they are one.
+    fn add_styled(&mut self, text: &str, style: &GelvanhStyle) -> Answer
+        ensures { AddsPart (style_at style.now) text.now result self.old self.new }
+    {
+        match style_of(style) {
+            Some(style) => self.add_part(text, style),
+            None => Answer::Unknown,
+        }
+    }
+
+    /// The same with a text of bytes.
+    pub(crate) fn prompt(&mut self, text: &[u8], style: &GelvanhStyle) -> Answer
+        ensures { WithText text.now (AddsPart (style_at style.now) text.now) result self.old self.new }
+    {
+        match str::from_utf8(text) {
+            Ok(text) => self.add_styled(text, style),
             Err(_) => Answer::Unknown,
         }
     }
@@ -423,7 +480,8 @@ impl Lines {
     {
         let names = names_in(self.alloc, self.names.as_str())?;
         let given = Given::new(self.hint.as_str(), &names, self.listed);
-        let prompt = prompt_with(self.prompt.as_str(), self.mask, &given);
+        let parts = borrow_all(self.alloc, &self.parts)?;
+        let prompt = prompt_with(self.prompt.as_str(), &parts, self.mask, &given);
         let lists = self.listed.lists();
         prompt.show(&mut self.output, &self.editor, &mut self.rows, lists)
     }

@@ -145,6 +145,18 @@ impl<'a, H> Prompt<'a, H> {
         }
     }
 
+    /// The same prompt with these parts behind its text, each in its style.
+    ///
+    /// ```
+    /// let parts = ["~/src".blue(), "> ".bold()];
+    /// let prompt = Prompt::new("").with_parts(&parts);
+    /// ```
+    pub fn with_parts(self, parts: &'a [StyledContent<&'a str>]) -> Prompt<'a, H>
+        ensures { result ≡ record self.entry { parts = parts.entry } }
+    {
+        Prompt { parts, ..self }
+    }
+
     /// The same prompt, which doesn't ask the terminal for the cursor's place after a resize.
     ///
     /// ```

@@ -1,6 +1,6 @@
 //! Asks a terminal for a line.
 
-use super::{Editor, Helper, Limits, LineError, Mask, Outcome};
+use super::{Editor, Helper, Limits, LineError, Mask, Outcome, Prompt};
 use crate::event::Event;
 use crate::key::{KeyCode, KeyModifiers};
 use crate::writing::write_command;
@@ -123,7 +123,7 @@ fn may_end(event: &Event) -> bool {
 
 impl<H: Helper> Editor<H> {
     /// Asks for a line from the cursor's row on, behind a prompt, until Enter, Ctrl-C, or Ctrl-D in an empty line. It returns neither
-    /// `Outcome::Going` nor `Ring`.
+    /// `Outcome::Going` nor `Ring`. The prompt is a `&str`, or a `Prompt` of parts in styles.
     ///
     /// Raw mode is on meanwhile, and so are pastes as events, unless this crate lacks the feature `bracketed-paste`. Both are off again however
     /// it ends; a raw mode that was on before stays on. Between two lines the terminal has its own mode, in which Ctrl-C ends the program.
@@ -139,13 +139,14 @@ impl<H: Helper> Editor<H> {
     /// all events that were read, but one for which memory was refused, and the cursor stays in its row.
     ///
     /// A line that has ended is returned also if the terminal fails to leave its rows.
-    pub fn readline<T: Terminal + ?Sized>(&mut self, prompt: &str, terminal: &mut T) -> io::Result<Outcome> {
-        self.begin(prompt, 0, 0)?;
+    pub fn readline<'a, T: Terminal + ?Sized>(&mut self, prompt: impl Into<Prompt<'a>>, terminal: &mut T) -> io::Result<Outcome> {
+        let prompt = prompt.into();
+        self.begin_behind(&prompt, 0, 0)?;
         let session = Session::begin(terminal)?;
         // From its first look on a terminal reports resizes: so none is lost between its size and the next event.
         session.terminal.has_event()?;
         let (columns, rows) = session.terminal.size()?;
-        self.begin(prompt, columns, rows)?;
+        self.begin_behind(&prompt, columns, rows)?;
         self.show(session.terminal)?;
         loop {
             let event = session.terminal.read()?;
@@ -189,7 +190,7 @@ impl<H: Helper> Editor<H> {
 /// # Errors
 ///
 /// Those of `Editor::readline`, and what was typed before an error is lost.
-pub fn read_hidden<T: Terminal + ?Sized>(prompt: &str, mask: Mask, terminal: &mut T) -> io::Result<Outcome> {
+pub fn read_hidden<'a, T: Terminal + ?Sized>(prompt: impl Into<Prompt<'a>>, mask: Mask, terminal: &mut T) -> io::Result<Outcome> {
     let mut editor = Editor::new(Limits { lines: 0, ..Limits::default() })?;
     editor.hide(Some(mask));
     editor.readline(prompt, terminal)

@@ -48,6 +48,12 @@ impl ContentStyle {
     }
 }
 
+impl From<ContentStyle> for gelvanh::Style {
+    fn from(style: ContentStyle) -> gelvanh::Style {
+        style.proved()
+    }
+}
+
 impl AsRef<ContentStyle> for ContentStyle {
     fn as_ref(&self) -> &ContentStyle {
         self

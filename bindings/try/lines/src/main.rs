@@ -1,5 +1,5 @@
 //! Plays the scripts of play.c through the crate `gelvanh`, and prints the same lines.
-use gelvanh::flat;
+use gelvanh::{flat, Attribute, Attributes, Color, Style};
 use gelvanh::line::{Editor, LineError, Limits, Mask, Outcome, Words};
 use std::fmt::Write as _;
 use std::io::{self, BufRead, Write};
@@ -43,6 +43,29 @@ fn size_of(numbers: &str) -> (u16, u16) {
     (columns.parse().expect("a number"), rows.parse().expect("a number"))
 }
 
+/// The style of a part by its place in play.c, or `None` for one that isn't there: nothing of this crate has its numbers.
+fn style_of(place: &str) -> Option<Style> {
+    let none = Style::default();
+    match place {
+        "0" => Some(none),
+        "1" => Some(Style { foreground: Some(Color::Green), ..none }),
+        "2" => Some(Style {
+            foreground: Some(Color::Blue),
+            background: Some(Color::White),
+            attributes: Attribute::Bold.into(),
+            ..none
+        }),
+        "3" => Some(Style {
+            foreground: Some(Color::Rgb { r: 9, g: 8, b: 7 }),
+            underline: Some(Color::AnsiValue(208)),
+            attributes: Attributes::from(Attribute::Undercurled) | Attribute::Italic,
+            ..none
+        }),
+        "4" => Some(Style { background: Some(Color::Reset), attributes: Attribute::Underdotted.into(), ..none }),
+        _ => None,
+    }
+}
+
 /// What comes of a word, as the number that the archive answers, and the line that was accepted.
 fn act(editor: &mut Editor<Words>, word: &str, out: &mut Sum) -> (u32, Option<String>) {
     let (kind, rest) = word.split_at(1);
@@ -51,6 +74,11 @@ fn act(editor: &mut Editor<Words>, word: &str, out: &mut Sum) -> (u32, Option<St
             let (size, prompt) = rest.split_once(':').expect("a size and a prompt");
             let (columns, rows) = size_of(size);
             editor.begin(&from_hex(prompt), columns, rows).map(|()| Outcome::Going)
+        }
+        "q" => {
+            let (place, text) = rest.split_once(':').expect("a style and a text");
+            let style = style_of(place).ok_or(LineError::Prompt);
+            style.and_then(|style| editor.add_part(&from_hex(text), style)).map(|()| Outcome::Going)
         }
         "r" => {
             let (columns, rows) = size_of(rest);

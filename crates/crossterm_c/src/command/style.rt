@@ -1,30 +1,26 @@
 //! Commands of style.
 ghost use Rattle.std.specs.Prelude.{◌≡◌, IfSome, None};
 ghost use Rattle.std.specs.Option.{MatchOption};
-ghost use Rattle.crossterm_c.specs.Command.{AnswersSlice, AnswersTo, colors_at, style_at, style_text};
+ghost use Rattle.crossterm_c.specs.Command.{AnswersSlice, AnswersTo, colors_at, command_style, style_text};
 
 use super::GelvanhCommand;
-use crate::color::{attribute_of, attributes_of, color_of, there_of};
 use crate::outlet::{Answer, write};
 use crossterm::Command;
 use crossterm::style::{
     ColorOutput, Colors, ContentStyle, ResetColor, SetAttribute, SetAttributes, SetBackgroundColor,
     SetColors, SetForegroundColor, SetStyle, SetUnderlineColor,
 };
+use numbers::{GelvanhStyle, attribute_of, attributes_of, color_of, style_of, there_of};
 
 /// The style of a command, if each of its parts is one.
-pub(super) fn style_of(command: &GelvanhCommand) -> Option<ContentStyle>
-    ensures { result ≡ style_at command.now }
+pub(super) fn command_style(command: &GelvanhCommand) -> Option<ContentStyle>
+    ensures { result ≡ command_style command.now }
 {
-    let foreground_color = there_of(command.foreground)?;
-    let background_color = there_of(command.background)?;
-    let underline_color = there_of(command.underline)?;
-    let attributes = attributes_of(command.attributes)?;
-    Some(ContentStyle {
-        foreground_color,
-        background_color,
-        underline_color,
-        attributes,
+    style_of(&GelvanhStyle {
+        foreground: command.foreground,
+        background: command.background,
+        underline: command.underline,
+        attributes: command.attributes,
     })
 }
 
@@ -86,7 +82,7 @@ pub(super) fn write_style(command: &GelvanhCommand, colors: ColorOutput, slice: 
             colors,
             slice,
         ),
-        41 => write_some(style_of(command).map(SetStyle), colors, slice),
+        41 => write_some(command_style(command).map(SetStyle), colors, slice),
         43 => write(&ResetColor, colors, slice),
         _ => Answer::nothing(),
     }

@@ -6,7 +6,7 @@ ghost use Rattle.crossterm.specs.Sequences.{set_title};
 ghost use Rattle.crossterm_c.specs.Command.{HasNotFailed, AnswersText, AnswersTo, copied, outcome_at, output_of, printed};
 
 use super::{GelvanhCommand, output_of};
-use crate::command::style::style_of;
+use crate::command::style::command_style;
 use crate::outlet::{Answer, put, write, write_plain};
 use base64::display::Base64Display;
 use base64::engine::general_purpose::STANDARD;
@@ -43,7 +43,7 @@ pub extern "C" fn gelvanh_set_title(title: &[u8], slice: &mut [u8], length: &mut
 fn print_styled(style: &GelvanhCommand, text: &str, colors: ColorOutput, slice: &mut [u8]) -> Answer
     ensures { AnswersTo (printed colors style.now text.now) slice.old slice.new result.length result.outcome }
 {
-    match style_of(style) {
+    match command_style(style) {
         Some(style) => write(&PrintStyledContent(style.apply(text)), colors, slice),
         None => Answer::nothing(),
     }

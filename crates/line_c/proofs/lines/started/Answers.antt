@@ -7,7 +7,7 @@ pub returns : goal.returns
 returns c = record {
   editor = c.in_ok-editor.ensures.ok;
   area = (c.in-Ok.ensures.fresh, c.in-Ok.ensures.size.0, c.in-Ok.ensures.size.1);
-  texts = (c.new-3.ensures.bytes, c.new-4.ensures.bytes, c.new-5.ensures.bytes, ap chars c.new-6.ensures.bytes ∙ chars-nil);
+  texts = (c.new-3.ensures.bytes, c.new-4.ensures.items, c.new-5.ensures.bytes, c.new-6.ensures.bytes, ap chars c.new-7.ensures.bytes ∙ chars-nil);
   shows = (refl, refl, refl);
-  output = (refl, c.new-7.ensures.items);
+  output = (refl, c.new-8.ensures.items);
 }

@@ -1,7 +1,7 @@
 use Rattle.std.proofs.Common.{[], ◌∷◌, ◌++◌, ap, sym, ◌∙◌, append-nil, append_assoc}
-use Rattle.crossterm_c.specs.Command.{includes}
-use Rattle.crossterm_c.proofs.AttributeLaws.{gathers_all, gathers_more}
-use Rattle.crossterm_c.proofs.color.known_in.Goals as goal
+use Rattle.numbers.specs.Style.{includes}
+use Rattle.numbers.proofs.AttributeLaws.{gathers_all, gathers_more}
+use Rattle.numbers.proofs.style.known_in.Goals as goal
 
 pub loop-attribute-preserved : goal.loop-attribute-preserved
 loop-attribute-preserved c =

@@ -1,8 +1,8 @@
 use Rattle.std.proofs.Common.{◌≡◌, ◌++◌}
 use Rattle.std.specs.List.{filter}
 use Rattle.crossterm_style.specs.Attributes.{all_attributes, of_list}
-use Rattle.crossterm_c.specs.Command.{includes}
-use Rattle.crossterm_c.proofs.color.known_in.Given as goal
+use Rattle.numbers.specs.Style.{includes}
+use Rattle.numbers.proofs.style.known_in.Given as goal
 
 -- The attributes before this one were gathered.
 abbrev pub invariant-loop-attribute : goal.invariant-loop-attribute

@@ -5,7 +5,7 @@ use Rattle.std.specs.Int.RustNames.{bit_or}
 use Rattle.std.specs.List.{filter}
 use Rattle.crossterm_style.specs.Attributes.{all_attributes, bit_of, of_list, with_all}
 use Rattle.crossterm_style.specs.declared.types.attribute.Attribute.{Attribute}
-use Rattle.crossterm_c.specs.Command.{includes, known_of}
+use Rattle.numbers.specs.Style.{includes, known_of}
 
 with_all-append : (bits : ℕ) (xs ys : List Attribute) → with_all bits (xs ++ ys) ≡ with_all (with_all bits xs) ys
 with_all-append bits [] ys = refl

@@ -1,14 +1,14 @@
-//! Colours and attributes as numbers.
+//! Colours, attributes and styles as numbers.
 ghost use Rattle.std.specs.Prelude.{◌≡◌, [], ◌∷◌};
 ghost use Rattle.std.specs.List.{filter};
 ghost use Rattle.crossterm_style.specs.Attributes.{with_all};
-ghost use Rattle.crossterm_c.specs.Command.{attribute_at, attributes_at, color_of_kind, includes, known_of, there_at};
+ghost use Rattle.numbers.specs.Style.{attribute_at, attributes_at, color_of_kind, includes, known_of, style_at, there_at};
 
-use crossterm::style::{Attribute, Attributes, Color};
+use crossterm_style::{Attribute, Attributes, Color, ContentStyle};
 
 /// A colour, by its place in crossterm's enum counted from 1; 0 is none.
 #[repr(C)]
-#[derive(Clone, Copy, Debug, PartialEq, Eq)]
+#[derive(Clone, Copy, Debug, PartialEq, Eq, Default)]
 pub struct GelvanhColor {
     /// Which: 1 the terminal's own, 2 to 17 by name, 18 by its parts, 19 by its place in the palette.
     pub kind: u8,
@@ -20,8 +20,26 @@ pub struct GelvanhColor {
     pub b: u8,
 }
 
-/// The attribute at a place.
-pub(crate) fn attribute_of(place: u16) -> Option<Attribute>
+/// How a text looks: colours that may be missing, and attributes.
+#[repr(C)]
+#[derive(Clone, Copy, Debug, PartialEq, Eq, Default)]
+pub struct GelvanhStyle {
+    /// The colour of the text.
+    pub foreground: GelvanhColor,
+    /// The colour behind the text.
+    pub background: GelvanhColor,
+    /// The colour of the line below the text.
+    pub underline: GelvanhColor,
+    /// The bits of attributes.
+    pub attributes: u32,
+}
+
+/// The attribute at a place of crossterm's enum, or `None` if there is none.
+///
+/// ```
+/// assert_eq!(rt; attribute_of(1), Some(Attribute::Bold));
+/// ```
+pub fn attribute_of(place: u16) -> Option<Attribute>
     ensures { result ≡ attribute_at place }
 {
     Attribute::iterator().nth(usize::from(place))
@@ -53,16 +71,25 @@ fn known_in(bits: u32) -> (Attributes, u32)
     (set, known)
 }
 
-/// The set of some bits, if they are those of attributes.
-pub(crate) fn attributes_of(bits: u32) -> Option<Attributes>
+/// The set of attributes of some bits, or `None` if one of them is no attribute's.
+///
+/// ```
+/// let bold = attributes_of(Attribute::Bold.bytes());
+/// ```
+pub fn attributes_of(bits: u32) -> Option<Attributes>
     ensures { result ≡ attributes_at bits }
 {
     let (set, known) = known_in(bits);
     if known == bits { Some(set) } else { None }
 }
 
-/// The colour of some numbers.
-pub(crate) fn color_of(color: GelvanhColor) -> Option<Color>
+/// The colour of some numbers, or `None` if they are no colour's.
+///
+/// ```
+/// let orange = color_of(GelvanhColor { kind: 19, r: 208, g: 0, b: 0 });
+/// assert_eq!(rt; orange, Some(Color::AnsiValue(208)));
+/// ```
+pub fn color_of(color: GelvanhColor) -> Option<Color>
     ensures { result ≡ color_of_kind color }
 {
     match color.kind {
@@ -93,8 +120,12 @@ pub(crate) fn color_of(color: GelvanhColor) -> Option<Color>
     }
 }
 
-/// The colour of some numbers, which may be missing.
-pub(crate) fn there_of(color: GelvanhColor) -> Option<Option<Color>>
+/// The colour of some numbers, which may be missing, or `None` if they are no colour's.
+///
+/// ```
+/// assert_eq!(rt; there_of(GelvanhColor::default()), Some(None));
+/// ```
+pub fn there_of(color: GelvanhColor) -> Option<Option<Color>>
     ensures { result ≡ there_at color }
 {
     if color.kind == 0 {
@@ -104,4 +135,25 @@ pub(crate) fn there_of(color: GelvanhColor) -> Option<Option<Color>>
         Some(color) => Some(Some(color)),
         None => None,
     }
+}
+
+/// The style of some numbers, or `None` if a colour or the attributes of it are none.
+///
+/// ```
+/// let bold = GelvanhStyle { attributes: 4, ..GelvanhStyle::default() };
+/// assert_eq!(rt; style_of(&bold), Some(ContentStyle::new().bold()));
+/// ```
+pub fn style_of(style: &GelvanhStyle) -> Option<ContentStyle>
+    ensures { result ≡ style_at style.now }
+{
+    let foreground_color = there_of(style.foreground)?;
+    let background_color = there_of(style.background)?;
+    let underline_color = there_of(style.underline)?;
+    let attributes = attributes_of(style.attributes)?;
+    Some(ContentStyle {
+        foreground_color,
+        background_color,
+        underline_color,
+        attributes,
+    })
 }

@@ -3,7 +3,7 @@ use Rattle.std.specs.Iterator.{YieldsFirstBy}
 use Rattle.std.proofs.lemmas.Iterator.Adapters.{option_map_id}
 use Rattle.std.proofs.lemmas.Iterator.Consumers.{YieldsList-from_first, nth_from_yields_List}
 use Rattle.crossterm_style.specs.Attributes.{all_attributes}
-use Rattle.crossterm_c.proofs.color.attribute_of.Goals as goal
+use Rattle.numbers.proofs.style.attribute_of.Goals as goal
 
 pub returns : goal.returns
 returns c =
