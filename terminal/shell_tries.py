@@ -294,6 +294,42 @@ def shown_in(run):
     return [row for row in rows if row], int(place[0]), int(place[1])
 
 
+def shell_prints_above_the_line():
+    """A text of another thread is printed above a line that is written meanwhile, and the line goes on below it."""
+    with room() as path, shell(path) as terminal:
+        terminal.send(b'later 1 It is built.\r')
+        terminal.until(b'$ ')
+        terminal.send(b'echo un')
+        terminal.until(b'\x1b[1G\x1b[JIt is built.\r\n')
+        terminal.until(b'$ \x1b[0mecho un')
+        terminal.send(b'done\r')
+        terminal.until(b'\r\nundone\r\n')
+        # One that comes while no line is written is printed with the next key at the latest, and many of them lose no key.
+        for _ in range(20):
+            terminal.send(b'later 0 again\r')
+        terminal.send(b'echo end\r')
+        terminal.until(b'\r\nend\r\n')
+        ends(terminal)
+        equal('texts', terminal.out.count(b'\x1b[Jagain\r\n'), 20)
+
+
+def shell_prints_in_tmux():
+    """What tmux shows of a text above a line of two rows: both are whole, and nothing of the line is left above."""
+    with room() as path, tmux(f'shell {path}') as run:
+        run('resize-window', '-t', 't', '-x', '60')
+        run('send-keys', '-l', '-t', 't', 'later 1 It is built.')
+        run('send-keys', '-t', 't', 'Enter')
+        run('send-keys', '-l', '-t', 't', 'echo ' + 'x' * 100)
+        run('send-keys', '-t', 't', 'Left')
+        want = (['$ later 1 It is built.', 'It is built.', '$ echo ' + 'x' * 52, 'x' * 48], 47, 3)
+        end = time.time() + 5
+        while (is_ := shown_in(run)) != want and time.time() < end:
+            time.sleep(0.05)
+        equal(f'rows of {want!r}', is_, want)
+        run('send-keys', '-t', 't', 'C-u')
+        run('send-keys', '-t', 't', 'C-d')
+
+
 def shell_in_tmux():
     """What tmux shows of candidates and of a password, and that nothing of either stays."""
     with room() as path, tmux(f'shell {path}') as run:
@@ -321,7 +357,7 @@ def shell_in_tmux():
 
 
 TRIES = [
-    shell_lists_words, shell_asks_for_a_password, shell_completes_and_remembers, shell_ends_by_signals, shell_sets_a_file_aside, shell_goes_on_without_a_file,
+    shell_prints_above_the_line, shell_lists_words, shell_asks_for_a_password, shell_completes_and_remembers, shell_ends_by_signals, shell_sets_a_file_aside, shell_goes_on_without_a_file,
     shell_writes_the_rest_later, shell_appends, shells_append_at_once, shell_is_cut_while_another_appends, shell_goes_on_without_a_lock,
 ]
-IN_TMUX = [shell_in_tmux]
+IN_TMUX = [shell_in_tmux, shell_prints_in_tmux]

@@ -14,6 +14,7 @@ use std::env;
 use std::io::{self, BufWriter, ErrorKind};
 use std::rt::Files;
 use std::sync::Wait;
+use std::thread::Threads;
 use std::time::Clock;
 
 const USAGE: &str = "usage: example NAME
@@ -42,7 +43,7 @@ fn run_plain(rt: &HostRuntime, name: &str, words: &[String]) -> io::Result<()> {
 }
 
 /// Runs an example in a terminal: `keys`, with the bindings of a file, if the name is none of the others.
-fn run_in_terminal<R: AllocGlobal + Files + Clock + Wait>(
+fn run_in_terminal<R: AllocGlobal + Files + Clock + Threads + Wait + Copy + Send + Drop + 'static>(
     rt: &R,
     tty: &mut Tty<'_>,
     name: &str,

@@ -7,7 +7,7 @@
 //! |---|---|
 //! | `events` | each event as it comes, and the cursor's place |
 //! | `edit` | a line editor |
-//! | `shell` | five commands, with completion, hints and a history in a file |
+//! | `shell` | seven commands, with completion, hints, a history in a file and texts of another thread |
 //! | `keys` | key bindings, by default or from a file |
 //! | `browse` | a full-screen list, by keys and mouse |
 //! | `clock` | two threads: one reads, the other draws the time |

@@ -1,6 +1,7 @@
-//! A shell of six commands: its words are completed at Tab and listed at a second Tab, have hints, and its history is kept in a file.
+//! A shell of seven commands: its words are completed at Tab and listed at a second Tab, have hints, and its history is kept in a file.
 //!
-//! `example shell FILE` runs it in a terminal; `quit`, or Ctrl-D in an empty line, ends it. `password` asks for a line that nobody is to read. The history is read from the file at the start, and
+//! `example shell FILE` runs it in a terminal; `quit`, or Ctrl-D in an empty line, ends it. `password` asks for a line that nobody is to read, and
+//! `later` prints words above the line that is written meanwhile. The history is read from the file at the start, and
 //! each line is appended to it as soon as it is accepted, so that none is lost, however the shell ends. Only its owner may read a file that is
 //! made. One that can't be written is named once, and the shell goes on.
 
@@ -10,18 +11,21 @@ use crossterm::terminal::{Clear, ClearType};
 use crossterm::{QueueableCommand, queue};
 use line_editor::{Editor, Limits, Mask};
 use own_terminal::{Feature, Tty};
-use prompt::{HistoryFile, HistoryTrouble, LockFile, Prompt, Read, Words};
+use prompt::{HistoryFile, HistoryTrouble, LockFile, Printer, Prompt, Read, Words};
 use std::fs::Files;
 use std::io::{self, ErrorKind, Write};
 use std::sync::Wait;
-use std::time::Clock;
+use std::thread::{self, Threads};
+use std::time::{Clock, Duration};
 
 const COLORS: ColorOutput = ColorOutput::Enabled;
 
 /// The names of the commands.
-const COMMANDS: [&str; 6] = ["help", "echo", "history", "clear", "password", "quit"];
+const COMMANDS: [&str; 7] = [
+    "help", "echo", "history", "clear", "later", "password", "quit",
+];
 
-const HELP: &str = "help, echo WORDS, history, clear, password, quit";
+const HELP: &str = "help, echo WORDS, history, clear, later SECONDS WORDS, password, quit";
 
 /// Prints lines, each with a carriage return.
 fn print<W: Write>(out: &mut W, text: &str) -> io::Result<()> {
@@ -33,7 +37,6 @@ fn print<W: Write>(out: &mut W, text: &str) -> io::Result<()> {
 
 /// Does what a line says. Returns whether the shell goes on.
 fn obey<W: Write>(out: &mut W, editor: &Editor, line: &str) -> io::Result<bool> {
-    let line = line.trim();
     let (name, words) = line.split_once(' ').unwrap_or((line, ""));
     match name {
         "" => {}
@@ -59,6 +62,31 @@ fn ask_password<R: Wait>(rt: &R, tty: &mut Tty<'_>) -> io::Result<()> {
     }
 }
 
+/// Prints words above the line after so many seconds, from another thread.
+fn print_later<R: Clock + Threads + Wait + Copy + Send + Drop + 'static>(
+    rt: &R,
+    tty: &mut Tty<'_>,
+    printer: &Printer,
+    words: &str,
+) -> io::Result<()> {
+    let (seconds, words) = words.split_once(' ').unwrap_or((words, ""));
+    let Ok(seconds) = seconds.parse::<u64>() else {
+        return write!(tty.out, "later SECONDS WORDS\r\n");
+    };
+    let text = String::from_str(tty.alloc, words)?;
+    let printer = printer.share()?;
+    let rt = *rt;
+    let thread = thread::spawn(&rt, move || {
+        thread::sleep(&rt, Duration::from_secs(seconds));
+        // A text for which there is no memory isn't printed.
+        let _ = printer.print(&rt, text.as_str());
+    });
+    match thread {
+        Ok(_) => Ok(()),
+        Err(_) => Err(io::Error::from(ErrorKind::OutOfMemory)),
+    }
+}
+
 /// Says what is wrong with the history's file, if something is.
 fn say<W: Write>(out: &mut W, file: &str, trouble: Option<HistoryTrouble>) -> io::Result<()> {
     if let Some(trouble) = trouble {
@@ -68,7 +96,7 @@ fn say<W: Write>(out: &mut W, file: &str, trouble: Option<HistoryTrouble>) -> io
 }
 
 /// Reads lines, appends them to the history's file and does what they say, until one ends the shell.
-fn obey_all<R: Files + Clock + Wait>(
+fn obey_all<R: Files + Clock + Threads + Wait + Copy + Send + Drop + 'static>(
     rt: &R,
     tty: &mut Tty<'_>,
     editor: &mut Editor,
@@ -80,15 +108,21 @@ where
 {
     let words = Words::new(&COMMANDS);
     let parts = ["$ ".green()];
-    let prompt = Prompt::styled(&parts).with_helper(&words);
+    let printer = Printer::new(tty.alloc, tty.waker()?)?;
+    let prompt = Prompt::styled(&parts)
+        .with_helper(&words)
+        .with_printer(&printer);
     for _ in rt.forever() {
         match prompt.read_line(rt, tty, editor)? {
             Read::Line(line) => {
                 let trouble = history.append(rt, editor, line.as_str())?;
                 say(&mut tty.out, file, trouble)?;
-                if line.as_str().trim() == "password" {
+                let text = line.as_str().trim();
+                if text == "password" {
                     ask_password(rt, tty)?;
-                } else if !obey(&mut tty.out, editor, line.as_str())? {
+                } else if let Some(words) = text.strip_prefix("later ") {
+                    print_later(rt, tty, &printer, words)?;
+                } else if !obey(&mut tty.out, editor, text)? {
                     break;
                 }
             }
@@ -105,7 +139,7 @@ where
 ///
 /// Those of the terminal and its writer, but for the end of input, and `OutOfMemory` if memory was refused. A file that can't be read or
 /// written is named in the terminal, and is no error.
-pub fn run<R: AllocGlobal + Files + Clock + Wait>(
+pub fn run<R: AllocGlobal + Files + Clock + Threads + Wait + Copy + Send + Drop + 'static>(
     rt: &R,
     tty: &mut Tty<'_>,
     file: &str,

@@ -1,5 +1,5 @@
 -- A frame that joins the output.
-use Rattle.std.proofs.Common.{◌≡◌, ℕ, Bool, true, false, List, ◌++◌, Option, Some, Bor, map, refl, sym, subst, ap, ◌∙◌}
+use Rattle.std.proofs.Common.{◌≡◌, ℕ, Bool, true, false, List, ◌++◌, Option, Some, is_some, Bor, map, refl, sym, subst, ap, ◌∙◌}
 use Rattle.std.proofs.lemmas.List.{append_assoc}
 use Rattle.std.specs.Prelude.{Result, Ok, Err, OnErr, OnOk}
 use Rattle.std.specs.Str.Lines.{lines}
@@ -24,9 +24,9 @@ at_ok {X} {E} {r} {x} {P} is p = subst (λ r. OnOk r P) is p
 pub not_both : {X E : Type 0} {r : Result X E} {x : X} {e : E} → r ≡ Ok x → r ≡ Err e → ⊥
 not_both {X} {E} {r} {x} {e} ok err = at_ok ok (subst (λ (r : Result X E). OnOk r ⊥) (sym err) tt)
 
--- A prompt with these parts, which wraps the line and asks the terminal or not.
-abbrev pub look_by : List PromptRun → List ℕ → Listed → List (List ℕ) → Option Mask → Bool → Bool → PromptView
-look_by prompt hint which names mask asks wraps = record {
+-- A prompt with these parts, which wraps the line, asks the terminal and prints texts or not.
+abbrev pub look_by : List PromptRun → List ℕ → Listed → List (List ℕ) → Option Mask → Bool → Bool → Bool → PromptView
+look_by prompt hint which names mask asks wraps prints = record {
   given = as_read;
   prompt = prompt;
   hints = λ _. hint;
@@ -34,6 +34,7 @@ look_by prompt hint which names mask asks wraps = record {
   mask = mask;
   asks = asks;
   wraps = wraps;
+  prints = prints;
 }
 
 -- How a prompt looks with what a caller has given.
@@ -46,14 +47,15 @@ runs_are k text parts is are =
     ap (λ (t : List ℕ). whole_prompt (record k { prompt = t; parts = map run_of parts })) is ∙ ap (λ (ps : List PromptRun). whole_prompt (record k { parts = ps })) are
 
 -- It looks as the definition says.
-pub look_is : (k : LineState) (p : Prompt Given) (g : Given) → prompt_runs p ≡ whole_prompt k → p.mask ≡ k.mask → p.asks ≡ true → p.wraps ≡ true
+pub look_is : (k : LineState) (p : Prompt Given) (g : Given) → prompt_runs p ≡ whole_prompt k → p.mask ≡ k.mask → p.asks ≡ true → p.wraps ≡ true → is_some p.printer ≡ false
     → g.hint.now ≡ k.hint → g.listed ≡ k.listed → map (λ n. n.now) g.names.now ≡ lines k.names → look_with p g ≡ look_at k
-look_is k p g runs mask asks wraps hint which names =
+look_is k p g runs mask asks wraps prints hint which names =
     let all = map (λ (n : Bor (List ℕ)). n.now) g.names.now in
-    ap (λ x. look_by x g.hint.now g.listed all p.mask p.asks p.wraps) runs ∙ ap (λ x. look_by (whole_prompt k) x g.listed all p.mask p.asks p.wraps) hint
-    ∙ ap (λ x. look_by (whole_prompt k) k.hint x all p.mask p.asks p.wraps) which ∙ ap (λ x. look_by (whole_prompt k) k.hint k.listed x p.mask p.asks p.wraps) names
-    ∙ ap (λ x. look_by (whole_prompt k) k.hint k.listed (lines k.names) x p.asks p.wraps) mask ∙ ap (λ x. look_by (whole_prompt k) k.hint k.listed (lines k.names) k.mask x p.wraps) asks
-    ∙ ap (λ x. look_by (whole_prompt k) k.hint k.listed (lines k.names) k.mask true x) wraps
+    ap (λ x. look_by x g.hint.now g.listed all p.mask p.asks p.wraps (is_some p.printer)) runs ∙ ap (λ x. look_by (whole_prompt k) x g.listed all p.mask p.asks p.wraps (is_some p.printer)) hint
+    ∙ ap (λ x. look_by (whole_prompt k) k.hint x all p.mask p.asks p.wraps (is_some p.printer)) which ∙ ap (λ x. look_by (whole_prompt k) k.hint k.listed x p.mask p.asks p.wraps (is_some p.printer)) names
+    ∙ ap (λ x. look_by (whole_prompt k) k.hint k.listed (lines k.names) x p.asks p.wraps (is_some p.printer)) mask ∙ ap (λ x. look_by (whole_prompt k) k.hint k.listed (lines k.names) k.mask x p.wraps (is_some p.printer)) asks
+    ∙ ap (λ x. look_by (whole_prompt k) k.hint k.listed (lines k.names) k.mask true x (is_some p.printer)) wraps
+    ∙ ap (λ x. look_by (whole_prompt k) k.hint k.listed (lines k.names) k.mask true true x) prints
 
 -- Bytes grew by a frame, or by a beginning of one.
 pub front_of : {X E : Type 0} (r : Result X E) (s : Shown) (a b : Area) (old new out : List ℕ) → OnOk r (Draws s a b (Some old) (Some new)) → OnErr r (DrawsFront s a (Some old) (Some new))

@@ -164,6 +164,7 @@ look_at k = record {
   mask = k.mask;
   asks = true;
   wraps = true;
+  prints = false;
 }
 
 -- One frame joined the output: the area shows the line, and nothing else changes. The window is cleared before, if that

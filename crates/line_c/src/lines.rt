@@ -1,5 +1,5 @@
 //! An editor with the rows in which its line is shown.
-ghost use Rattle.std.specs.Prelude.{◌≡◌, ℕ, ◌++◌, true, false, [], IfOk, IfSome, List, OnErr, OnOk, Some, map, reverse, string_bytes, vec_items};
+ghost use Rattle.std.specs.Prelude.{◌≡◌, ℕ, ◌++◌, true, false, [], IfOk, IfSome, List, OnErr, OnOk, Some, map, reverse, string_bytes, vec_items, is_some};
 ghost use Rattle.std.specs.Str.{chars};
 ghost use Rattle.std.specs.Str.Lines.{lines};
 ghost use Rattle.crossterm_types.specs.Seen.{seen_event};
@@ -102,7 +102,7 @@ fn prompt_with<'a>(
     ensures runs { prompt_runs result ≡ runs_of text.now parts.now }
     ensures mask { result.mask ≡ mask }
     ensures given { result.helper.now ≡ given.now }
-    ensures usual { (result.asks ≡ true) × (result.wraps ≡ true) }
+    ensures usual { (result.asks ≡ true) × (result.wraps ≡ true) × (is_some result.printer ≡ false) }
 {
     let prompt = Prompt::new(text).with_parts(parts).with_helper(given);
     match mask {

@@ -27,7 +27,7 @@ use crate::feature::{Feature, last_of, switch_off_flushed};
 use crate::{Input, open};
 use crossterm::cursor;
 use crossterm::event::read::InternalEventReader;
-use crossterm::event::source::{Device, DeviceSource, EventSource};
+use crossterm::event::source::{Device, DeviceSource, EventSource, Waker};
 use crossterm::event::timeout::Clock;
 use crossterm::event::{Event, EventReader, EventStream, KeyboardEnhancementFlags, Pass};
 use crossterm::terminal::{ModeDevice, SttyDevice, Terminal, supports_keyboard_enhancement};
@@ -326,6 +326,21 @@ impl<S: EventSource<Global>, D: ModeDevice, W: Write + Drop, C: Clock + Drop> Se
         ensures others { (self.new.out ≡ self.old.out) × (self.new.term ≡ self.old.term) × (self.new.features ≡ self.old.features) }
     {
         self.reader.poll(rt, &mut self.pass, limit, &mut self.clock)
+    }
+
+    /// A waker, by which another thread ends a `poll` with `false`, and a `read_within` with `None`.
+    ///
+    /// # Errors
+    ///
+    /// `OutOfMemory` if no further share of the waker can be made.
+    ///
+    /// ```
+    /// let printer = Printer::new(alloc, tty.waker()?)?;
+    /// ```
+    pub fn waker(&self) -> io::Result<Waker>
+        ensures err { IfErr result (λ e. error_kind e ≡ OutOfMemory) }
+    {
+        self.reader.waker()
     }
 
     /// The cursor's place, as column and row, both counted from 0. This asks the terminal, and waits two seconds at most.

@@ -16,3 +16,4 @@ pub mod Appended
 pub mod Wording
 pub mod Sharing
 pub mod Tabling
+pub mod Printed

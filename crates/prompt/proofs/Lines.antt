@@ -7,7 +7,7 @@ use Rattle.crossterm_read.specs.History.{Known}
 use Rattle.line_editor.specs.Bounds.{is_too_long}
 use Rattle.line_editor.specs.States.{EditorState}
 use Rattle.line_editor.specs.Turns.{Answer, Going, Clear, Ring, Line, Interrupted, Closed, IsGoing, after_events, answer, event_more, lines_in, lines_of_events, task_of, turned}
-use Rattle.prompt.specs.Asking.{LineEnds, GoesOn, unread, further, placed, answer_to, after_event}
+use Rattle.prompt.specs.Asking.{LineEnds, GoesOn, unread, further, placed, waited, answer_to, after_event}
 use Rattle.prompt.specs.Lines.{Calls, uncalled, called, GivesLines, read_for_line, going_on_events, taken_events}
 
 -- Some events, and then others.
@@ -84,6 +84,7 @@ module _ {S : Type 0} {drawn : S → List SourceAnswer → S → Type 0} {asked 
       gives_both given (going_on_events goes) (e ∷ []) w k (after_event (given k e) k) [] [] (gives_none goes)
       (subst P (no_line (answer_to (given k e) k) going) (gives_one given e k (answer_to (given k e) k) refl))
   gives_none (placed p q k goes asks) = gives_none goes
+  gives_none (waited p q k goes waits) = gives_none goes
 
   -- What a line's events give.
   gives_end : {v u : Known S} {w z : EditorState} {a : Answer} → (ends : LineEnds drawn asked given v w a u z) → GivesLines given (read_for_line ends) w (lines_in a) z

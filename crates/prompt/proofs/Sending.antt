@@ -37,6 +37,10 @@ err_with (Err e) f a = f a
 pub at_err : {X E : Type 0} {r : Result X E} {e : E} {P : Type 0} → r ≡ Err e → OnErr r P → P
 at_err {X} {E} {r} {e} {P} is p = subst (λ r. OnErr r P) is p
 
+-- One of the error that came.
+pub at_if_err : {X E : Type 0} {r : Result X E} {e : E} (P : E → Type 0) → r ≡ Err e → IfErr r P → P e
+at_if_err {X} {E} {r} {e} P is p = subst (λ r. IfErr r P) is p
+
 -- A fact that follows of each value, and of each error.
 pub if_ok_with : {X E : Type 0} {A B : X → Type 0} (r : Result X E) → ((x : X) → A x → B x) → IfOk r A → IfOk r B
 if_ok_with (Ok x) f a = f x a

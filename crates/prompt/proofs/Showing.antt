@@ -1,5 +1,5 @@
 -- One more piece, and one more event, in the list of what was written.
-use Rattle.std.proofs.Common.{◌≡◌, inl, inr, ℕ, ◌≤◌, ◌++◌, ◌&&◌, Bool, true, false, cond, List, [], ◌∷◌, Option, Some, None, Result, Ok, Err, OnErr, OnOk, refl, sym, subst, ap, ◌∙◌, append_assoc, append-nil}
+use Rattle.std.proofs.Common.{◌≡◌, inl, inr, ℕ, ◌≤◌, ◌++◌, ◌&&◌, Bool, true, false, cond, List, [], ◌∷◌, Option, Some, None, is_some, Result, Ok, Err, OnErr, OnOk, refl, sym, subst, ap, ◌∙◌, append_assoc, append-nil}
 use Rattle.std.proofs.lemmas.List.{reverse-append}
 use Rattle.std.proofs.KnownBytes.{Appends-nil, Appends-trans}
 use Rattle.std.specs.Io.KnownBytes.{Appends}
@@ -15,15 +15,15 @@ use Rattle.crossterm_read.specs.Replies.{Came}
 use Rattle.crossterm_command.specs.Writing.{AppendsFront}
 use Rattle.line_editor.specs.States.{EditorState}
 use Rattle.line_editor.specs.Turns.{Answer, Going, Clear, Ring, IsGoing}
-use Rattle.prompt.specs.Asking.{GoesOn, unread, further, placed, stopped, refused, after_event, answer_to}
+use Rattle.prompt.specs.Asking.{GoesOn, Waits, unread, further, placed, waited, stopped, refused, after_event, answer_to}
 use Rattle.prompt.specs.Drawing.{clearing}
 use Rattle.line_editor.specs.declared.masks.Mask.{Mask}
 use Rattle.prompt.specs.Completing.{as_read, is_tab}
-use Rattle.prompt.specs.Frames.{Area, Draws, DrawsFront, IsLineFrame, IsNewArea, bell, erasure, leaving_area, resized_area, unseen}
+use Rattle.prompt.specs.Frames.{Area, Draws, DrawsFront, IsLineFrame, IsNewArea, bell, erasure, in_lines, leaving_area, resized_area, unseen}
 use Rattle.prompt.specs.Lines.{going_on_events}
 use Rattle.prompt.specs.Shown.{PromptRun, runs_of}
 use Rattle.prompt.specs.declared.asking.Prompt.{Prompt}
-use Rattle.prompt.specs.Written.{GoesOnShown, IsNewPrompt, look_of, plain_look, HasWritten, HasWrittenFront, LineEndsShown, PromptView, Stage, Shows, Due, Clears, Resized, StopsShown, Pieces, nothing_yet, shown, moved_on, missed, overflowed, rung, let_clear, cleared, resized, asked, erased, begins_with_tab, begins_with_tabs, ends_in_tab, ends_in_tabs, resizes, overflows, shown_for}
+use Rattle.prompt.specs.Written.{GoesOnShown, IsNewPrompt, look_of, plain_look, HasWritten, HasWrittenFront, LineEndsShown, PromptView, Stage, Shows, Due, Clears, Resized, StopsShown, Pieces, nothing_yet, shown, moved_on, missed, overflowed, rung, let_clear, cleared, resized, asked, erased, printed, begins_with_tab, begins_with_tabs, ends_in_tab, ends_in_tabs, resizes, overflows, shown_for}
 use Rattle.prompt.specs.inside.Turning.{MayAsk, MayQuery, TakesAs, stage_after}
 use Rattle.prompt.proofs.Drawn.{new_area, new_is}
 
@@ -37,11 +37,13 @@ lists_so es e tab tabbed lists is was both =
 
 -- A prompt as it is at first.
 pub new_look : {H : Type 0} (text : List ℕ) (p : Prompt H) → IsNewPrompt (runs_of text []) p → look_of as_read (λ _. []) (λ _ _. []) p ≡ plain_look text
-new_look text p (runs, mask, asks, wraps) =
-    ap (λ (x : List PromptRun). record { given = as_read; prompt = x; hints = λ _. []; candidates = λ _ _. []; mask = p.mask; asks = p.asks; wraps = p.wraps }) runs
-    ∙ ap (λ (x : Option Mask). record { given = as_read; prompt = runs_of text []; hints = λ _. []; candidates = λ _ _. []; mask = x; asks = p.asks; wraps = p.wraps }) mask
-    ∙ ap (λ (x : Bool). record { given = as_read; prompt = runs_of text []; hints = λ _. []; candidates = λ _ _. []; mask = None; asks = x; wraps = p.wraps }) asks
-    ∙ ap (λ (x : Bool). record { given = as_read; prompt = runs_of text []; hints = λ _. []; candidates = λ _ _. []; mask = None; asks = true; wraps = x }) wraps
+new_look text p (runs, mask, asks, wraps, prints) =
+    let prints_so : Bool = is_some p.printer in
+    ap (λ (x : List PromptRun). record { given = as_read; prompt = x; hints = λ _. []; candidates = λ _ _. []; mask = p.mask; asks = p.asks; wraps = p.wraps; prints = prints_so }) runs
+    ∙ ap (λ (x : Option Mask). record { given = as_read; prompt = runs_of text []; hints = λ _. []; candidates = λ _ _. []; mask = x; asks = p.asks; wraps = p.wraps; prints = prints_so }) mask
+    ∙ ap (λ (x : Bool). record { given = as_read; prompt = runs_of text []; hints = λ _. []; candidates = λ _ _. []; mask = None; asks = x; wraps = p.wraps; prints = prints_so }) asks
+    ∙ ap (λ (x : Bool). record { given = as_read; prompt = runs_of text []; hints = λ _. []; candidates = λ _ _. []; mask = None; asks = true; wraps = x; prints = prints_so }) wraps
+    ∙ ap (λ (x : Bool). record { given = as_read; prompt = runs_of text []; hints = λ _. []; candidates = λ _ _. []; mask = None; asks = true; wraps = true; prints = x }) prints
 
 -- Bytes that grew by a text whole or, at an error, by a beginning of it.
 pub either_way : {X E : Type 0} (r : Result X E) (old new : Option (List ℕ)) (text : List ℕ) → OnOk r (Appends old new text) → OnErr r (AppendsFront old new text) → AppendsFront old new text
@@ -191,6 +193,22 @@ module _ (look : PromptView) (w : EditorState) where
   erases_front es k rows a out old new (was, h) above part =
       part_of es k (Due (resized_area 0 0 0 a) false) out old new h.bytes (erasure rows) h.appended part (erased es k a h.bytes was rows 0 0 0 h.writes above)
 
+  -- A text of another thread.
+  pub prints : (es : List Seen) (k : EditorState) (a : Area) (room : ℕ) (of : List ℕ) (out old new : Option (List ℕ)) → look.prints ≡ true → HasWritten look w es k (Shows a false) out old
+      → Appends old new (erasure a.block.row ++ in_lines of) → HasWritten look w es k (Due (unseen room a) false) out new
+  prints es k a room of out old new may h grown =
+      let text : List ℕ = erasure a.block.row ++ in_lines of in
+      record {
+        bytes = h.bytes ++ text;
+        appended = Appends-trans out old new h.bytes text h.appended grown;
+        writes = printed es k a room h.bytes of h.writes may;
+      }
+
+  pub prints_front : (es : List Seen) (k : EditorState) (a : Area) (of : List ℕ) (out old new : Option (List ℕ)) → look.prints ≡ true → HasWritten look w es k (Shows a false) out old
+      → AppendsFront old new (erasure a.block.row ++ in_lines of) → HasWrittenFront look w es k out new
+  prints_front es k a of out old new may h part =
+      part_of es k (Due (unseen 0 a) false) out old new h.bytes (erasure a.block.row ++ in_lines of) h.appended part (printed es k a 0 h.bytes of h.writes may)
+
   -- All that was written until a question.
   pub all_queried : (es : List Seen) (k : EditorState) (a : Area) (out new : Option (List ℕ)) → ((was : Bool) × HasWritten look w es k (Resized a was) out new) → HasWrittenFront look w es k out new
   all_queried es k a out new (was, h) = all_of es k (Resized a was) out new h
@@ -218,11 +236,12 @@ module _ {S : Type 0} (drawn : S → List SourceAnswer → S → Type 0) (ask : 
   pub not_begun : (kind : ErrorKind) (old : Option (List ℕ)) → StopsShown drawn ask look v w kind v w old old
   not_begun kind old = record { stops = stopped unread; written = all_of look w [] w (Due (new_area look.wraps) false) old old (starts look w (new_area look.wraps) old (new_is look.wraps)) }
 
-  pub goes_shown : (u : Known S) (z : EditorState) (es : List Seen) (a : Area) (tab : Bool) (out new : Option (List ℕ)) → WentOn u z es → ends_in_tab es ≡ tab
-      → HasWritten look w es z (Shows a false) out new → GoesOnShown drawn ask look v w u z a tab out new
-  goes_shown u z es a tab out new (goes, is) tabs h = record {
+  pub goes_shown : (u : Known S) (z : EditorState) (es : List Seen) (a : Area) (tab lists : Bool) (out new : Option (List ℕ)) → WentOn u z es → ends_in_tab es ≡ tab
+      → ends_in_tabs es ≡ lists → HasWritten look w es z (Shows a false) out new → GoesOnShown drawn ask look v w u z a tab lists out new
+  goes_shown u z es a tab lists out new (goes, is) tabs listed h = record {
     goes = goes;
     tabs = ap ends_in_tab is ∙ tabs;
+    listed = ap ends_in_tabs is ∙ listed;
     written = subst (λ t. HasWritten look w t z (Shows a false) out new) (sym is) h;
   }
 
@@ -231,9 +250,9 @@ module _ {S : Type 0} (drawn : S → List SourceAnswer → S → Type 0) (ask : 
   stops_shown kind u z es out new (goes, is) h = record { stops = stopped goes; written = subst (λ t. HasWrittenFront look w t z out new) (sym is) h }
 
   -- The line ended, and its area was left.
-  pub ends_shown : (p u : Known S) (k z : EditorState) (e : Seen) (a : Answer) (x : Area) (tab : Bool) (out old new : Option (List ℕ)) → GoesOnShown drawn ask look v w p k x tab out old
+  pub ends_shown : (p u : Known S) (k z : EditorState) (e : Seen) (a : Answer) (x : Area) (tab lists : Bool) (out old new : Option (List ℕ)) → GoesOnShown drawn ask look v w p k x tab lists out old
       → Reads drawn ask filters.Event p u (Came (Some e)) → TakesAs a (look.given k e) k z → AppendsFront old new (leaving_area x) → LineEndsShown drawn ask look v w a u z out new
-  ends_shown p u k z e a x tab out old new g reads takes part = record {
+  ends_shown p u k z e a x tab lists out old new g reads takes part = record {
     ends = record { before = p; line = k; event = e; goes = g.goes; reads = reads; ends = takes.0; left = takes.1 };
     area = x;
     bytes = g.written.bytes;
@@ -245,10 +264,32 @@ module _ {S : Type 0} (drawn : S → List SourceAnswer → S → Type 0) (ask : 
   }
 
   -- Memory was refused for the event that was read next.
-  pub refused_shown : (p q : Known S) (k z : EditorState) (e : Seen) (x : Area) (tab : Bool) (kind : ErrorKind) (out new : Option (List ℕ)) → GoesOnShown drawn ask look v w p k x tab out new
+  pub refused_shown : (p q : Known S) (k z : EditorState) (e : Seen) (x : Area) (tab lists : Bool) (kind : ErrorKind) (out new : Option (List ℕ)) → GoesOnShown drawn ask look v w p k x tab lists out new
       → Reads drawn ask filters.Event p q (Came (Some e)) → overflows look k e ≡ false → z ≡ k → kind ≡ OutOfMemory → StopsShown drawn ask look v w kind q z out new
-  refused_shown p q k z e x tab kind out new g reads room same is =
+  refused_shown p q k z e x tab lists kind out new g reads room same is =
       subst (λ (y : EditorState). StopsShown drawn ask look v w kind q y out new) (sym same) record {
         stops = refused p e g.goes reads room is;
         written = all_of look w (going_on_events g.goes) k (Shows x false) out new g.written;
       }
+
+  -- An event was waited for.
+  pub waits_shown : (p q : Known S) (k : EditorState) (x : Area) (tab lists : Bool) (out new : Option (List ℕ)) → Waits drawn ask p q → GoesOnShown drawn ask look v w p k x tab lists out new
+      → GoesOnShown drawn ask look v w q k x tab lists out new
+  waits_shown p q k x tab lists out new waits g = record { goes = waited p q k g.goes waits; tabs = g.tabs; listed = g.listed; written = g.written }
+
+  -- More was written while no event was taken.
+  pub goes_written : (p : Known S) (k : EditorState) (x y : Area) (tab lists : Bool) (out old new : Option (List ℕ)) → GoesOnShown drawn ask look v w p k x tab lists out old
+      → ((es : List Seen) → ends_in_tabs es ≡ lists → HasWritten look w es k (Shows x false) out old → HasWritten look w es k (Shows y false) out new)
+      → GoesOnShown drawn ask look v w p k y tab lists out new
+  goes_written p k x y tab lists out old new g more = record { goes = g.goes; tabs = g.tabs; listed = g.listed; written = more (going_on_events g.goes) g.listed g.written }
+
+  -- All of what was written is a beginning.
+  pub goes_stopped : (p : Known S) (k : EditorState) (x : Area) (tab lists : Bool) (kind : ErrorKind) (out new : Option (List ℕ)) → GoesOnShown drawn ask look v w p k x tab lists out new
+      → StopsShown drawn ask look v w kind p k out new
+  goes_stopped p k x tab lists kind out new g = record { stops = stopped g.goes; written = all_of look w (going_on_events g.goes) k (Shows x false) out new g.written }
+
+  -- A beginning of more was written.
+  pub goes_cut : (p : Known S) (k : EditorState) (x : Area) (tab lists : Bool) (kind : ErrorKind) (out old new : Option (List ℕ)) → GoesOnShown drawn ask look v w p k x tab lists out old
+      → ((es : List Seen) → ends_in_tabs es ≡ lists → HasWritten look w es k (Shows x false) out old → HasWrittenFront look w es k out new)
+      → StopsShown drawn ask look v w kind p k out new
+  goes_cut p k x tab lists kind out old new g more = record { stops = stopped g.goes; written = more (going_on_events g.goes) g.listed g.written }

@@ -1,5 +1,5 @@
 -- What comes of one more event, and of a question.
-use Rattle.std.proofs.Common.{◌≡◌, inl, inr, ℕ, false, List, Option, Some, Result, refl, sym, subst}
+use Rattle.std.proofs.Common.{◌≡◌, inl, inr, ℕ, Bool, false, List, Option, Some, Result, refl, sym, subst}
 use Rattle.std.specs.declared.io.Error.{Error}
 use Rattle.std.specs.declared.io.ErrorKind.{ErrorKind}
 use Rattle.std.specs.declared.io.ErrorKind.TheVariants.{OutOfMemory}
@@ -7,7 +7,7 @@ use Rattle.std.specs.declared.time.Duration.{Duration}
 use Rattle.crossterm_types.specs.Seen.{Seen}
 use Rattle.crossterm_types.specs.declared.event.filter.AnyFilter.TheVariants as filters
 use Rattle.crossterm_read.specs.Answers.{SourceAnswer}
-use Rattle.crossterm_read.specs.Entries.{AsksPosition, Reads}
+use Rattle.crossterm_read.specs.Entries.{AsksPosition, Polls, Reads}
 use Rattle.crossterm_read.specs.History.{Known}
 use Rattle.crossterm_read.specs.Replies.{Came}
 use Rattle.crossterm.specs.Asking.{InRawMode, InTwoSeconds, Queries, raw_already, not_on, not_off, on_and_off}
@@ -15,7 +15,7 @@ use Rattle.crossterm.specs.Modes.{ModeCall, Modes}
 use Rattle.line_editor.specs.Bounds.{is_too_long}
 use Rattle.line_editor.specs.States.{EditorState}
 use Rattle.line_editor.specs.Turns.{Answer, IsGoing, event_more}
-use Rattle.prompt.specs.Asking.{AsksPlace, GoesOn, StopsAsking, unread, further, placed, refused}
+use Rattle.prompt.specs.Asking.{AsksPlace, GoesOn, StopsAsking, Waits, unread, further, placed, refused}
 use Rattle.prompt.specs.inside.Turning.{MayAsk, TakesAs}
 
 module _ {S : Type 0} (drawn : S → List SourceAnswer → S → Type 0) (asked : S → List (Option Duration)) where
@@ -26,6 +26,10 @@ module _ {S : Type 0} (drawn : S → List SourceAnswer → S → Type 0) (asked 
   asks_place : (begins : ℕ → Type 0) (after : ℕ) (p q : Known S) (r : Result (ℕ × ℕ) Error) → InTwoSeconds (λ limit. AsksPosition drawn asked limit begins after p q r)
       → AsksPlace drawn asked p q
   asks_place begins after p q r (limit, two, (start, begun, rest)) = (start, after, r, (limit, two, (start, refl, rest)))
+
+  -- A poll, whatever came of it.
+  pub waits : (limit : Duration) (begins : ℕ → Type 0) (after : ℕ) (p q : Known S) (r : Result Bool Error) → Polls drawn asked filters.Event (Some limit) begins after p q r → Waits drawn asked p q
+  waits limit begins after p q r (start, begun, rest) = (limit, start, after, r, (start, refl, rest))
 
   -- A query that was made, or that couldn't be written.
   queried : (old new : Option (List ℕ)) (text : List ℕ) (begins : ℕ → Type 0) (after : ℕ) (p q : Known S) (r : Result (ℕ × ℕ) Error)

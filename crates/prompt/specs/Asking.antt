@@ -1,5 +1,5 @@
 -- What happens as a line is asked for, event by event.
-use Rattle.std.specs.Prelude.{◌≡◌, ℕ, false, cond, List, Option, Some, Result, string_bytes}
+use Rattle.std.specs.Prelude.{◌≡◌, ℕ, Bool, false, cond, List, Option, Some, Result, string_bytes}
 use Rattle.std.specs.Str.{chars}
 use Rattle.std.specs.declared.io.Error.{Error}
 use Rattle.std.specs.declared.io.ErrorKind.{ErrorKind}
@@ -8,7 +8,7 @@ use Rattle.std.specs.declared.time.Duration.{Duration}
 use Rattle.crossterm_types.specs.Seen.{Seen}
 use Rattle.crossterm_types.specs.declared.event.filter.AnyFilter.TheVariants as filters
 use Rattle.crossterm_read.specs.Answers.{SourceAnswer}
-use Rattle.crossterm_read.specs.Entries.{AsksPosition, Reads}
+use Rattle.crossterm_read.specs.Entries.{AsksPosition, Polls, Reads}
 use Rattle.crossterm_read.specs.History.{Known}
 use Rattle.crossterm_read.specs.Replies.{Came, Faulted}
 use Rattle.crossterm.specs.Asking.{InTwoSeconds}
@@ -36,6 +36,10 @@ answer_seen read.Closed = Closed
 abbrev pub AsksPlace : {S : Type 0} → (S → List SourceAnswer → S → Type 0) → (S → List (Option Duration)) → Known S → Known S → Type 0
 AsksPlace drawn asked v w = (start : ℕ) × (after : ℕ) × (result : Result (ℕ × ℕ) Error) × InTwoSeconds (λ limit. AsksPosition drawn asked limit (λ n. n ≡ start) after v w result)
 
+-- A pass waited for an event by a poll, whatever came of it.
+abbrev pub Waits : {S : Type 0} → (S → List SourceAnswer → S → Type 0) → (S → List (Option Duration)) → Known S → Known S → Type 0
+Waits drawn asked v w = (limit : Duration) × (start : ℕ) × (after : ℕ) × (result : Result Bool Error) × Polls drawn asked filters.Event (Some limit) (λ n. n ≡ start) after v w result
+
 -- A line goes on: a pass read events from `v` on, and the editor took what it is given for each from `w` on. None ended
 -- the line.
 pub data GoesOn {S : Type 0} (drawn : S → List SourceAnswer → S → Type 0) (asked : S → List (Option Duration)) (given : EditorState → Seen → Seen) (v : Known S) (w : EditorState) : Known S → EditorState → Type 0 where
@@ -46,6 +50,8 @@ pub data GoesOn {S : Type 0} (drawn : S → List SourceAnswer → S → Type 0) 
       → GoesOn drawn asked given v w q (after_event (given k e) k)
   -- The line went on, and the terminal was asked for the cursor's place: the editor is as it was.
   placed : (p q : Known S) (k : EditorState) → GoesOn drawn asked given v w p k → AsksPlace drawn asked p q → GoesOn drawn asked given v w q k
+  -- The line went on, and an event was waited for: the editor is as it was.
+  waited : (p q : Known S) (k : EditorState) → GoesOn drawn asked given v w p k → Waits drawn asked p q → GoesOn drawn asked given v w q k
 
 -- A line ends with this outcome: it went on, and then one more event was read, which has this outcome.
 pub record LineEnds {S : Type 0} (drawn : S → List SourceAnswer → S → Type 0) (asked : S → List (Option Duration)) (given : EditorState → Seen → Seen) (v : Known S) (w : EditorState) (a : Answer) (u : Known S) (z : EditorState) : Type 0 where
@@ -60,7 +66,7 @@ pub record LineEnds {S : Type 0} (drawn : S → List SourceAnswer → S → Type
 -- Asking stops with an error of this kind. The editor took all events that were read, but not one for which memory
 -- was refused.
 pub data StopsAsking {S : Type 0} (drawn : S → List SourceAnswer → S → Type 0) (asked : S → List (Option Duration)) (given : EditorState → Seen → Seen) (v : Known S) (w : EditorState) (kind : ErrorKind) (u : Known S) (z : EditorState) : Type 0 where
-  -- The prompt or memory was refused, or the writer, the device of modes or a question failed: the line went on so far.
+  -- The prompt or memory was refused, or the writer, the device of modes, a question or a wait failed: the line went on so far.
   stopped : GoesOn drawn asked given v w u z → StopsAsking drawn asked given v w kind u z
   -- The next read failed with this error.
   broke : (p : Known S) → GoesOn drawn asked given v w p z → Reads drawn asked filters.Event p u (Faulted kind) → StopsAsking drawn asked given v w kind u z

@@ -1,6 +1,8 @@
 -- The texts that show a line: a frame of the rows from the cursor's on, and those between frames.
 use Rattle.std.specs.Prelude.{◌≡◌, ◌⊎◌, ℕ, ◌<◌, ◌==◌, ◌++◌, Bool, true, false, if◌then◌else◌, length, List, [], ◌∷◌, Option, None}
 use Rattle.std.specs.Io.KnownBytes.{Appends}
+use Rattle.std.specs.List.{flat_map}
+use Rattle.std.specs.Str.Lines.{lines}
 use Rattle.crossterm_command.specs.Tokens.{Token, text_of}
 use Rattle.crossterm_command.specs.declared.color_output.ColorOutput.TheVariants.{Enabled}
 use Rattle.crossterm.specs.Sequences.{by, clear}
@@ -88,6 +90,10 @@ bell = 0x07 ∷ []
 -- 8.3.22, 8.3.9, 8.3.39).
 abbrev pub erasure : ℕ → List ℕ
 erasure rows = (if rows == 0 then [] else text_of (by rows "A")) ++ (text_of (by 1 "G") ++ text_of (clear FromCursorDown))
+
+-- A text in whole lines: CR and LF are behind each.
+abbrev pub in_lines : List ℕ → List ℕ
+in_lines text = flat_map (λ line. line ++ (0x0D ∷ 0x0A ∷ [])) (lines text)
 
 -- What erases a hint behind the line: EL (ECMA-48, 8.3.41).
 abbrev pub hint_erasure : Bool → List ℕ

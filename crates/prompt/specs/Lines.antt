@@ -7,13 +7,14 @@ use Rattle.crossterm_read.specs.History.{Known}
 use Rattle.line_editor.specs.Bounds.{is_too_long}
 use Rattle.line_editor.specs.States.{EditorState}
 use Rattle.line_editor.specs.Turns.{Answer, after_events, event_more, lines_in, lines_of_events, turned}
-use Rattle.prompt.specs.Asking.{LineEnds, GoesOn, unread, further, placed}
+use Rattle.prompt.specs.Asking.{LineEnds, GoesOn, unread, further, placed, waited}
 
 -- The events that were read while a line went on, in order.
 abbrev pub going_on_events : {S : Type 0} {drawn : S → List SourceAnswer → S → Type 0} {asked : S → List (Option Duration)} {given : EditorState → Seen → Seen} {v : Known S} {w : EditorState} {p : Known S} {k : EditorState} → GoesOn drawn asked given v w p k → List Seen
 going_on_events unread = []
 going_on_events (further p q k e goes reads going) = going_on_events goes ++ e ∷ []
 going_on_events (placed p q k goes asks) = going_on_events goes
+going_on_events (waited p q k goes waits) = going_on_events goes
 
 -- All events that were read for a line, the last one too.
 abbrev pub read_for_line : {S : Type 0} {drawn : S → List SourceAnswer → S → Type 0} {asked : S → List (Option Duration)} {given : EditorState → Seen → Seen} {v u : Known S} {w z : EditorState} {a : Answer} → LineEnds drawn asked given v w a u z → List Seen

@@ -1,5 +1,5 @@
 -- The pieces that are written while a line is asked for.
-use Rattle.std.specs.Prelude.{◌≡◌, ℕ, ◌≤◌, ◌&&◌, Bool, true, false, if◌then◌else◌, reverse, List, [], ◌∷◌, ◌++◌, Option, Some, None, encode_utf8_all}
+use Rattle.std.specs.Prelude.{◌≡◌, ℕ, ◌≤◌, ◌&&◌, Bool, true, false, if◌then◌else◌, reverse, List, [], ◌∷◌, ◌++◌, Option, Some, None, is_some, encode_utf8_all}
 use Rattle.std.specs.Io.KnownBytes.{Appends}
 use Rattle.std.specs.declared.io.ErrorKind.{ErrorKind}
 use Rattle.std.specs.declared.time.Duration.{Duration}
@@ -19,7 +19,7 @@ use Rattle.line_editor.specs.Turns.{Answer, Going, Clear, Ring, event_more}
 use Rattle.prompt.specs.Asking.{GoesOn, LineEnds, StopsAsking, stopped, broke, refused, answer_to, after_event}
 use Rattle.prompt.specs.Completing.{as_read, is_tab}
 use Rattle.prompt.specs.Drawing.{clearing, search_text}
-use Rattle.prompt.specs.Frames.{Area, IsLineFrame, IsNewArea, bell, erasure, leaving_area, resized_area, unseen}
+use Rattle.prompt.specs.Frames.{Area, IsLineFrame, IsNewArea, bell, erasure, in_lines, leaving_area, resized_area, unseen}
 use Rattle.prompt.specs.Lines.{going_on_events}
 use Rattle.prompt.specs.Shown.{PromptRun, Shown, runs_of}
 use Rattle.prompt.specs.declared.asking.Prompt.{Prompt}
@@ -39,6 +39,8 @@ pub record PromptView : Type 0 where
   -- Whether it asks the terminal for the cursor's place, and whether it wraps the line.
   pub asks : Bool
   pub wraps : Bool
+  -- Whether it prints texts of other threads above the line.
+  pub prints : Bool
 
 -- The parts of a prompt.
 abbrev pub prompt_runs : {H : Type 0} → Prompt H → List PromptRun
@@ -46,23 +48,23 @@ prompt_runs p = runs_of p.text.now p.parts.now
 
 -- A prompt with these of a helper.
 abbrev pub look_of : {H : Type 0} → (EditorState → Seen → Seen) → (List ℕ → List ℕ) → (List ℕ → List ℕ → List (List ℕ)) → Prompt H → PromptView
-look_of given hints candidates p = record { given = given; prompt = prompt_runs p; hints = hints; candidates = candidates; mask = p.mask; asks = p.asks; wraps = p.wraps }
+look_of given hints candidates p = record { given = given; prompt = prompt_runs p; hints = hints; candidates = candidates; mask = p.mask; asks = p.asks; wraps = p.wraps; prints = is_some p.printer }
 
--- A prompt of these parts, for any reader, which wraps the line and asks the terminal.
+-- A prompt of these parts, for any reader, which wraps the line, asks the terminal and prints nothing else.
 abbrev pub IsNewPrompt : {H : Type 0} → List PromptRun → Prompt H → Type 0
-IsNewPrompt runs p = (prompt_runs p ≡ runs) × (p.mask ≡ None) × (p.asks ≡ true) × (p.wraps ≡ true)
+IsNewPrompt runs p = (prompt_runs p ≡ runs) × (p.mask ≡ None) × (p.asks ≡ true) × (p.wraps ≡ true) × (is_some p.printer ≡ false)
 
 -- Two prompts that differ by their helpers alone.
 abbrev pub IsPromptLike : {G H : Type 0} → Prompt G → Prompt H → Type 0
-IsPromptLike p q = (prompt_runs q ≡ prompt_runs p) × (q.mask ≡ p.mask) × (q.asks ≡ p.asks) × (q.wraps ≡ p.wraps)
+IsPromptLike p q = (prompt_runs q ≡ prompt_runs p) × (q.mask ≡ p.mask) × (q.asks ≡ p.asks) × (q.wraps ≡ p.wraps) × (q.printer ≡ p.printer)
 
 -- A prompt of this text without a helper, which wraps the line and asks the terminal.
 abbrev pub plain_look : List ℕ → PromptView
-plain_look text = record { given = as_read; prompt = runs_of text []; hints = λ _. []; candidates = λ _ _. []; mask = None; asks = true; wraps = true }
+plain_look text = record { given = as_read; prompt = runs_of text []; hints = λ _. []; candidates = λ _ _. []; mask = None; asks = true; wraps = true; prints = false }
 
 -- The same prompt for a line that nobody is to read.
 abbrev pub hidden_look : {H : Type 0} → Mask → Prompt H → PromptView
-hidden_look mask p = record { given = as_read; prompt = prompt_runs p; hints = λ _. []; candidates = λ _ _. []; mask = Some mask; asks = p.asks; wraps = p.wraps }
+hidden_look mask p = record { given = as_read; prompt = prompt_runs p; hints = λ _. []; candidates = λ _ _. []; mask = Some mask; asks = p.asks; wraps = p.wraps; prints = is_some p.printer }
 
 -- What is shown of an editor's line that nobody is to read.
 abbrev pub masked_shown : List PromptRun → Mask → EditorState → Shown
@@ -162,6 +164,9 @@ pub data Pieces (look : PromptView) (w : EditorState) : List Seen → EditorStat
   -- The area is erased, from its first row on, or a row above that: the terminal may have wrapped its rows.
   erased : (es : List Seen) (k : EditorState) (a : Area) (bytes : List ℕ) (was : Bool) (rows width most room : ℕ) → Pieces look w es k (Resized a was) bytes
       → a.block.row ≤ rows → Pieces look w es k (Due (resized_area width most room a) false) (bytes ++ erasure rows)
+  -- A text of another thread is printed in the area's place, in whole lines. Nothing is known of the area below it.
+  printed : (es : List Seen) (k : EditorState) (a : Area) (room : ℕ) (bytes text : List ℕ) → Pieces look w es k (Shows a false) bytes
+      → look.prints ≡ true → Pieces look w es k (Due (unseen room a) false) (bytes ++ (erasure a.block.row ++ in_lines text))
 
 -- A writer's bytes grew by what was written while a line went on.
 pub record HasWritten (look : PromptView) (w : EditorState) (es : List Seen) (k : EditorState) (stage : Stage) (old new : Option (List ℕ)) : Type 0 where
@@ -177,10 +182,11 @@ pub record HasWrittenFront (look : PromptView) (w : EditorState) (es : List Seen
   pub appended : Appends old new bytes
   pub writes : Pieces look w es k stage (bytes ++ rest)
 
--- A line goes on, and it is shown. The last event was Tab or not.
-pub record GoesOnShown {S : Type 0} (drawn : S → List SourceAnswer → S → Type 0) (asked : S → List (Option Duration)) (look : PromptView) (v : Known S) (w : EditorState) (p : Known S) (k : EditorState) (a : Area) (tabbed : Bool) (old new : Option (List ℕ)) : Type 0 where
+-- A line goes on, and it is shown. The last event was Tab or not, and candidates are listed or not.
+pub record GoesOnShown {S : Type 0} (drawn : S → List SourceAnswer → S → Type 0) (asked : S → List (Option Duration)) (look : PromptView) (v : Known S) (w : EditorState) (p : Known S) (k : EditorState) (a : Area) (tabbed lists : Bool) (old new : Option (List ℕ)) : Type 0 where
   pub goes : GoesOn drawn asked look.given v w p k
   pub tabs : ends_in_tab (going_on_events goes) ≡ tabbed
+  pub listed : ends_in_tabs (going_on_events goes) ≡ lists
   pub written : HasWritten look w (going_on_events goes) k (Shows a false) old new
 
 -- A line ended, and it was shown before its last event was read. Then the area was left once, as far as the writer went.

@@ -1,5 +1,5 @@
 //! Asks for a line, an event at a time.
-ghost use Rattle.std.specs.Prelude.{◌≡◌, ◌&&◌, [], ℕ, chars, true, false, IfErr, IfOk, IsErrAnd, IsTrue, List, None, OnErr, OnOk, Option, Some, is_some};
+ghost use Rattle.std.specs.Prelude.{◌≡◌, ◌&&◌, [], ℕ, Bool, chars, true, false, IfErr, IfOk, IsErrAnd, IsTrue, List, None, OnErr, OnOk, Option, Some, is_some};
 ghost use Rattle.std.specs.IoError.{error_kind};
 ghost use Rattle.std.specs.declared.io.ErrorKind.TheVariants.{InvalidInput};
 ghost use Rattle.crossterm_types.specs.Seen.{Paste, Seen, seen_event};
@@ -14,13 +14,14 @@ ghost use Rattle.prompt.specs.Shown as spec;
 ghost use Rattle.prompt.specs.Shown.{runs_of};
 ghost use Rattle.prompt.specs.Frames.{area_of};
 ghost use Rattle.prompt.specs.Written as written;
-ghost use Rattle.prompt.specs.Written.{GoesOnShown, HasWritten, HasWrittenFront, HiddenLine, HiddenStops, IsNewPrompt, IsPromptLike, LineEndsShown, Shows, StopsShown, hidden_limits, look_of, plain_look, prompt_runs};
+ghost use Rattle.prompt.specs.Written.{GoesOnShown, HasWritten, HasWrittenFront, HiddenLine, HiddenStops, IsNewPrompt, IsPromptLike, LineEndsShown, Shows, StopsShown, ends_in_tabs, hidden_limits, look_of, plain_look, prompt_runs};
 ghost use Rattle.prompt.specs.inside.Turning.{IsTaken, Leads, LeadsShown};
 
 use crate::drawing::ring;
-use crate::frames::{show_after, show_and_ring, show_at_top};
+use crate::frames::{show_after, show_and_ring, show_at_top, show_below};
 use crate::helpers::Helper;
 use crate::placing::size_for;
+use crate::printer::Printer;
 use crate::read::Read;
 use crate::rows::Rows;
 use crate::shown::have_control;
@@ -35,6 +36,7 @@ use std::alloc::{Allocator, Global};
 use std::cell::Cell;
 use std::io::{self, ErrorKind, Write};
 use std::sync::Wait;
+use std::time::Duration;
 
 /// What an editor makes of an event: the line goes on, also anew in an empty window, with a bell, or if a text was too long for it. Or it
 /// ends, or memory was refused.
@@ -48,10 +50,10 @@ enum Taken<A: Allocator> {
     Refused,
 }
 
-/// What comes of a turn: the line goes on, after Tab or another event. Or it ends, or there is an error.
+/// What comes of a turn: the line goes on, after Tab or another event, and candidates are listed or not. Or it ends, or there is an error.
 #[derive(Drop)]
 enum Turn<A: Allocator> {
-    Going(bool),
+    Going(bool, bool),
     Ended(Read<A>),
     Failed(io::Error),
 }
@@ -71,6 +73,8 @@ pub struct Prompt<'a, H = ()> {
     pub(crate) helper: &'a H,
     // What is shown in the line's place, if nobody is to read it.
     pub(crate) mask: Option<Mask>,
+    // Whose texts are printed above the line.
+    printer: Option<&'a Printer>,
     // Whether the terminal is asked for the cursor's place.
     asks: bool,
     // Whether the line is wrapped.
@@ -90,6 +94,7 @@ fn prompt_of<'a>(text: &'a str, parts: &'a [StyledContent<&'a str>]) -> Prompt<'
         parts,
         helper: &(),
         mask: None,
+        printer: None,
         asks: true,
         wraps: true,
         size: Cell::new(None),
@@ -138,6 +143,7 @@ impl<'a, H> Prompt<'a, H> {
             parts: self.parts,
             helper,
             mask: self.mask,
+            printer: self.printer,
             asks: self.asks,
             wraps: self.wraps,
             size: Cell::new(None),
@@ -166,6 +172,19 @@ impl<'a, H> Prompt<'a, H> {
         ensures { result ≡ record self.entry { asks = false } }
     {
         self.asks = false;
+        self
+    }
+
+    /// The same prompt, which prints the texts of other threads above the line while it asks for one.
+    ///
+    /// ```
+    /// let printer = Printer::new(alloc, tty.waker()?)?;
+    /// let prompt = Prompt::new("> ").with_printer(&printer);
+    /// ```
+    pub fn with_printer(mut self, printer: &'a Printer) -> Prompt<'a, H>
+        ensures { result ≡ record self.entry { printer = Some printer.entry } }
+    {
+        self.printer = Some(printer);
         self
     }
 
@@ -290,8 +309,8 @@ fn take_turn<
 ) -> Turn<A>
     ensures leads { (v : Known S) (w : EditorState) → GoesOn S.drawn S.asked (given_by (H.completes prompt.now.helper.now)) v w (knows tty.old.pass) editor.old
         → Leads S.drawn S.asked (given_by (H.completes prompt.now.helper.now)) v w result (knows tty.new.pass) editor.new }
-    ensures written { (v : Known S) (w : EditorState) (out : Option (List ℕ)) → (rows.old.is_asked ≡ true → prompt.now.asks ≡ true)
-        → GoesOnShown S.drawn S.asked (look_of (given_by (H.completes prompt.now.helper.now)) (H.hints prompt.now.helper.now) (H.candidates prompt.now.helper.now) prompt.now) v w (knows tty.old.pass) editor.old (area_of rows.old) tabbed out (W.contents tty.old.out)
+    ensures written { (v : Known S) (w : EditorState) (was : Bool) (out : Option (List ℕ)) → (rows.old.is_asked ≡ true → prompt.now.asks ≡ true)
+        → GoesOnShown S.drawn S.asked (look_of (given_by (H.completes prompt.now.helper.now)) (H.hints prompt.now.helper.now) (H.candidates prompt.now.helper.now) prompt.now) v w (knows tty.old.pass) editor.old (area_of rows.old) tabbed was out (W.contents tty.old.out)
         → LeadsShown S.drawn S.asked (look_of (given_by (H.completes prompt.now.helper.now)) (H.hints prompt.now.helper.now) (H.candidates prompt.now.helper.now) prompt.now) v w result (knows tty.new.pass) editor.new (area_of rows.new) out (W.contents tty.new.out) }
     ensures fewer { rows.new.is_asked ≡ true → rows.old.is_asked ≡ true }
     ensures features { tty.new.features ≡ tty.old.features }
@@ -305,19 +324,19 @@ fn take_turn<
     let lists = is_second(tab, tabbed);
     match take(editor, prompt.helper, &event) {
         Taken::Going => match show_after(rt, tty, editor, prompt, &event, rows, lists) {
-            Ok(()) => Turn::Going(tab),
+            Ok(()) => Turn::Going(tab, lists),
             Err(error) => Turn::Failed(error),
         },
         Taken::Clear => match show_at_top(&mut tty.out, editor, prompt, rows, lists) {
-            Ok(()) => Turn::Going(tab),
+            Ok(()) => Turn::Going(tab, lists),
             Err(error) => Turn::Failed(error),
         },
         Taken::Ring => match show_and_ring(&mut tty.out, editor, prompt, rows, lists) {
-            Ok(()) => Turn::Going(tab),
+            Ok(()) => Turn::Going(tab, lists),
             Err(error) => Turn::Failed(error),
         },
         Taken::TooLong => match ring(&mut tty.out) {
-            Ok(()) => Turn::Going(tab),
+            Ok(()) => Turn::Going(tab, lists),
             Err(error) => Turn::Failed(error),
         },
         Taken::Ended(read) => {
@@ -326,6 +345,118 @@ fn take_turn<
             Turn::Ended(read)
         }
         Taken::Refused => Turn::Failed(io::Error::from(ErrorKind::OutOfMemory)),
+    }
+}
+
+/// Prints the text that was handed over first, if there is one, and shows the line below it. Returns whether there was one.
+fn print_next<W: Write, A: Allocator, H: Helper, R: Wait>(
+    rt: &R,
+    out: &mut W,
+    printer: &Printer,
+    editor: &Editor<A>,
+    prompt: &Prompt<'_, H>,
+    rows: &mut Rows,
+    lists: bool,
+) -> io::Result<bool>
+    ensures shows { (given : EditorState → Seen → Seen) (w : EditorState) (es : List Seen) (from : Option (List ℕ)) → is_some prompt.now.printer ≡ true
+        → ends_in_tabs es ≡ lists → HasWritten (look_of given (H.hints prompt.now.helper.now) (H.candidates prompt.now.helper.now) prompt.now) w es editor.now (Shows (area_of rows.old) false) from (W.contents out.old) → OnOk result (HasWritten (look_of given (H.hints prompt.now.helper.now) (H.candidates prompt.now.helper.now) prompt.now) w es editor.now (Shows (area_of rows.new) false) from (W.contents out.new)) }
+    ensures stops { (given : EditorState → Seen → Seen) (w : EditorState) (es : List Seen) (from : Option (List ℕ)) → is_some prompt.now.printer ≡ true
+        → ends_in_tabs es ≡ lists → HasWritten (look_of given (H.hints prompt.now.helper.now) (H.candidates prompt.now.helper.now) prompt.now) w es editor.now (Shows (area_of rows.old) false) from (W.contents out.old) → OnErr result (HasWrittenFront (look_of given (H.hints prompt.now.helper.now) (H.candidates prompt.now.helper.now) prompt.now) w es editor.now from (W.contents out.new)) }
+    ensures asked { rows.new.is_asked ≡ rows.old.is_asked }
+{
+    match printer.next(rt) {
+        None => Ok(false),
+        Some(note) => match show_below(out, &note, editor, prompt, rows, lists) {
+            Ok(()) => Ok(true),
+            Err(error) => Err(error),
+        },
+    }
+}
+
+/// How long an event is waited for: not at all if a text was printed, since there may be another one, and otherwise a day, again and again.
+fn limit_after(printed: bool) -> Duration {
+    if printed {
+        Duration::ZERO
+    } else {
+        Duration::from_secs(86_400)
+    }
+}
+
+/// Waits until there is an event. Meanwhile the texts of other threads are printed, but after each an event goes first.
+fn wait_printing<
+    S: EventSource<Global>,
+    D: ModeDevice,
+    W: Write + Drop,
+    C: Clock + Drop,
+    A: Allocator,
+    H: Helper,
+    R: Wait,
+>(
+    rt: &R,
+    tty: &mut Session<S, D, W, C>,
+    printer: &Printer,
+    editor: &Editor<A>,
+    prompt: &Prompt<'_, H>,
+    rows: &mut Rows,
+    lists: bool,
+) -> io::Result<()>
+    ensures leads { (given : EditorState → Seen → Seen) (v : Known S) (w : EditorState) → GoesOn S.drawn S.asked given v w (knows tty.old.pass) editor.now → GoesOn S.drawn S.asked given v w (knows tty.new.pass) editor.now }
+    ensures shown { (given : EditorState → Seen → Seen) (v : Known S) (w : EditorState) (tab : Bool) (out : Option (List ℕ)) → is_some prompt.now.printer ≡ true
+        → GoesOnShown S.drawn S.asked (look_of given (H.hints prompt.now.helper.now) (H.candidates prompt.now.helper.now) prompt.now) v w (knows tty.old.pass) editor.now (area_of rows.old) tab lists out (W.contents tty.old.out)
+        → OnOk result (GoesOnShown S.drawn S.asked (look_of given (H.hints prompt.now.helper.now) (H.candidates prompt.now.helper.now) prompt.now) v w (knows tty.new.pass) editor.now (area_of rows.new) tab lists out (W.contents tty.new.out)) }
+    ensures cut { (given : EditorState → Seen → Seen) (v : Known S) (w : EditorState) (tab : Bool) (out : Option (List ℕ)) → is_some prompt.now.printer ≡ true
+        → GoesOnShown S.drawn S.asked (look_of given (H.hints prompt.now.helper.now) (H.candidates prompt.now.helper.now) prompt.now) v w (knows tty.old.pass) editor.now (area_of rows.old) tab lists out (W.contents tty.old.out)
+        → IfErr result (λ error. StopsShown S.drawn S.asked (look_of given (H.hints prompt.now.helper.now) (H.candidates prompt.now.helper.now) prompt.now) v w (error_kind error) (knows tty.new.pass) editor.now out (W.contents tty.new.out)) }
+    ensures asked { rows.new.is_asked ≡ rows.old.is_asked }
+    ensures others { (tty.new.term ≡ tty.old.term) × (tty.new.features ≡ tty.old.features) }
+{
+    for _ in rt.forever() {
+        let printed = match print_next(rt, &mut tty.out, printer, editor, prompt, rows, lists) {
+            Ok(printed) => printed,
+            Err(error) => return Err(error),
+        };
+        match tty.poll(rt, limit_after(printed)) {
+            Ok(true) => return Ok(()),
+            Ok(false) => {}
+            Err(error) => return Err(error),
+        }
+    }
+    unreachable!()
+}
+
+/// Takes a turn. Until there is an event, the texts of other threads are printed, if the prompt has a printer.
+fn take_next<
+    S: EventSource<Global>,
+    D: ModeDevice,
+    W: Write + Drop,
+    C: Clock + Drop,
+    A: Allocator + Clone,
+    H: Helper,
+    R: Wait,
+>(
+    rt: &R,
+    tty: &mut Session<S, D, W, C>,
+    editor: &mut Editor<A>,
+    prompt: &Prompt<'_, H>,
+    rows: &mut Rows,
+    tabbed: bool,
+    lists: bool,
+) -> Turn<A>
+    ensures leads { (v : Known S) (w : EditorState) → GoesOn S.drawn S.asked (given_by (H.completes prompt.now.helper.now)) v w (knows tty.old.pass) editor.old
+        → Leads S.drawn S.asked (given_by (H.completes prompt.now.helper.now)) v w result (knows tty.new.pass) editor.new }
+    ensures written { (v : Known S) (w : EditorState) (out : Option (List ℕ)) → (rows.old.is_asked ≡ true → prompt.now.asks ≡ true)
+        → GoesOnShown S.drawn S.asked (look_of (given_by (H.completes prompt.now.helper.now)) (H.hints prompt.now.helper.now) (H.candidates prompt.now.helper.now) prompt.now) v w (knows tty.old.pass) editor.old (area_of rows.old) tabbed lists out (W.contents tty.old.out)
+        → LeadsShown S.drawn S.asked (look_of (given_by (H.completes prompt.now.helper.now)) (H.hints prompt.now.helper.now) (H.candidates prompt.now.helper.now) prompt.now) v w result (knows tty.new.pass) editor.new (area_of rows.new) out (W.contents tty.new.out) }
+    ensures fewer { rows.new.is_asked ≡ true → rows.old.is_asked ≡ true }
+    ensures features { tty.new.features ≡ tty.old.features }
+    ensures mode { IsTrue (is_some tty.old.term.prior) → tty.new.term.prior ≡ tty.old.term.prior }
+{
+    match prompt.printer {
+        None => take_turn(rt, tty, editor, prompt, rows, tabbed),
+        Some(printer) => match wait_printing(rt, tty, printer, editor, prompt, rows, lists) {
+            Ok(()) => take_turn(rt, tty, editor, prompt, rows, tabbed),
+            Err(error) => Turn::Failed(error),
+        },
     }
 }
 
@@ -404,9 +535,13 @@ fn go_on<
     ensures mode { IsTrue (is_some tty.old.term.prior) → tty.new.term.prior ≡ tty.old.term.prior }
 {
     let mut tabbed = false;
+    let mut lists = false;
     for _ in rt.forever() {
-        match take_turn(rt, tty, editor, prompt, &mut rows, tabbed) {
-            Turn::Going(tab) => tabbed = tab,
+        match take_next(rt, tty, editor, prompt, &mut rows, tabbed, lists) {
+            Turn::Going(tab, both) => {
+                tabbed = tab;
+                lists = both;
+            }
             Turn::Ended(read) => return Ok(read),
             Turn::Failed(error) => return Err(error),
         }
@@ -520,6 +655,7 @@ impl<H> Prompt<'_, H> {
             parts: self.parts,
             helper: &(),
             mask: Some(mask),
+            printer: self.printer,
             asks,
             wraps,
             size: Cell::new(self.size.get()),

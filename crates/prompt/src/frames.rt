@@ -1,10 +1,12 @@
 //! Shows a line that is asked for: once more after an event, or anew in a window of another size.
-ghost use Rattle.std.specs.Prelude.{◌≡◌, ℕ, chars, true, false, IsTrue, List, OnErr, OnOk, Option, Some, is_some};
+ghost use Rattle.std.specs.Prelude.{◌≡◌, ◌++◌, ℕ, chars, true, false, IsTrue, List, OnErr, OnOk, Option, Some, is_some};
+ghost use Rattle.std.specs.Io.KnownBytes.{Appends};
 ghost use Rattle.crossterm_types.specs.Seen.{Seen, seen_event};
 ghost use Rattle.crossterm_read.specs.PassViews.{knows};
+ghost use Rattle.crossterm_command.specs.Writing.{AppendsFront};
 ghost use Rattle.line_editor.specs.States.{EditorState};
 ghost use Rattle.prompt.specs.Completing.{as_read};
-ghost use Rattle.prompt.specs.Frames.{Draws, DrawsFront, IsSizeOf, area_of};
+ghost use Rattle.prompt.specs.Frames.{Draws, DrawsFront, IsSizeOf, area_of, erasure, in_lines, unseen};
 ghost use Rattle.prompt.specs.Written as written;
 ghost use Rattle.prompt.specs.Written.{Clears, Due, HasWritten, HasWrittenFront, Resized, Shows, ends_in_tabs, line_shown, look_of, masked_shown, prompt_runs, search_shown, shown_for};
 ghost use Rattle.prompt.specs.inside.Turning.{MayAsk, stage_after};
@@ -13,6 +15,7 @@ use crate::asking::Prompt;
 use crate::drawing::{erase, ring};
 use crate::helpers::Helper;
 use crate::placing::{find_start, size_of};
+use crate::printer::Note;
 use crate::prompts::search_text;
 use crate::rows::Rows;
 use crate::shown::Shown;
@@ -20,6 +23,7 @@ use crossterm::event::Event;
 use crossterm::event::source::EventSource;
 use crossterm::event::timeout::Clock;
 use crossterm::terminal::ModeDevice;
+use crossterm_command::write_text;
 use line_editor::{Editor, Mask};
 use own_terminal::Session;
 use std::alloc::{Allocator, Global};
@@ -206,6 +210,40 @@ pub(crate) fn show_at_top<W: Write, A: Allocator, H: Helper>(
 {
     match rows.clear(out) {
         Ok(()) => prompt.show(out, editor, rows, lists),
+        Err(error) => Err(error),
+    }
+}
+
+/// Prints a text in the rows' place, in whole lines. Nothing is known of the rows then.
+fn print_instead<W: Write>(out: &mut W, note: &Note, rows: &mut Rows) -> io::Result<()>
+    ensures ok { OnOk result ((of : List ℕ) × Appends (W.contents out.old) (W.contents out.new) (erasure rows.old.block.row ++ in_lines of)) }
+    ensures err { OnErr result ((of : List ℕ) × AppendsFront (W.contents out.old) (W.contents out.new) (erasure rows.old.block.row ++ in_lines of)) }
+    ensures area { OnOk result ((area_of rows.new) ≡ unseen rows.new.block.room (area_of rows.old)) }
+    ensures asked { rows.new.is_asked ≡ rows.old.is_asked }
+{
+    rows.erase(out)?;
+    write_text(out, note.text())?;
+    rows.forget();
+    Ok(())
+}
+
+/// Prints a text of another thread in the line's place, and shows the line below it.
+pub(crate) fn show_below<W: Write, A: Allocator, H: Helper>(
+    out: &mut W,
+    note: &Note,
+    editor: &Editor<A>,
+    prompt: &Prompt<'_, H>,
+    rows: &mut Rows,
+    listed: bool,
+) -> io::Result<()>
+    ensures shows { (given : EditorState → Seen → Seen) (w : EditorState) (es : List Seen) (from : Option (List ℕ)) → is_some prompt.now.printer ≡ true
+        → ends_in_tabs es ≡ listed → HasWritten (look_of given (H.hints prompt.now.helper.now) (H.candidates prompt.now.helper.now) prompt.now) w es editor.now (Shows (area_of rows.old) false) from (W.contents out.old) → OnOk result (HasWritten (look_of given (H.hints prompt.now.helper.now) (H.candidates prompt.now.helper.now) prompt.now) w es editor.now (Shows (area_of rows.new) false) from (W.contents out.new)) }
+    ensures stops { (given : EditorState → Seen → Seen) (w : EditorState) (es : List Seen) (from : Option (List ℕ)) → is_some prompt.now.printer ≡ true
+        → ends_in_tabs es ≡ listed → HasWritten (look_of given (H.hints prompt.now.helper.now) (H.candidates prompt.now.helper.now) prompt.now) w es editor.now (Shows (area_of rows.old) false) from (W.contents out.old) → OnErr result (HasWrittenFront (look_of given (H.hints prompt.now.helper.now) (H.candidates prompt.now.helper.now) prompt.now) w es editor.now from (W.contents out.new)) }
+    ensures asked { rows.new.is_asked ≡ rows.old.is_asked }
+{
+    match print_instead(out, note, rows) {
+        Ok(()) => prompt.show(out, editor, rows, listed),
         Err(error) => Err(error),
     }
 }

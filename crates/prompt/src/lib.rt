@@ -19,12 +19,12 @@
 //!
 //! A `Prompt` has more: parts in styles of their own, and a `Helper`, which completes the line at Tab, lists candidates below it at a second Tab, and
 //! shows a hint behind it. `Words` is one that completes the word before the cursor by names. `Prompt::read_hidden` asks for a password. A
-//! `HistoryFile` keeps the accepted lines from one run to the next.
+//! `Printer` prints texts of other threads above the line. A `HistoryFile` keeps the accepted lines from one run to the next.
 //!
 //! The line takes as many rows as it needs, of all columns of the window but the last. If it needs more rows than the window has, it scrolls, with
 //! the cursor in sight. A row begins at each line feed. `Prompt::in_one_row` is for one row, through which the line is seen as `Line::seen` says. A
 //! key writes what it changes: a letter that is typed at the line's end is one byte. That relies on the cursor's column after the last frame, so
-//! nothing else is written to the terminal while a line is read. A character that no cell of `screen` can hold, as a joiner of emoji, is shown as
+//! nothing else but by a `Printer` is written to the terminal while a line is read. A character that no cell of `screen` can hold, as a joiner of emoji, is shown as
 //! U+FFFD.
 //!
 //! Ctrl-L clears the window, and draws the line at its top. After a resize the line is drawn anew in its place. The terminal is asked for
@@ -48,6 +48,7 @@
 //! | the lines of several calls are those of all events that were read for them, but for those whose texts are too long | `laws::gives_lines` |
 //! | all that is written for a line is a list of pieces. A frame of the line follows each event that was taken, before the next one is read; an event that clears the window does so first. The bell rings at a text that is too long, and behind the frame at a search that finds nothing. After a resize comes an erasure from the first row on, or from above it, and before that at most the question for the cursor's place, if the prompt asks. Once the line has ended the rows are left once, as far as the writer goes | `Prompt::read_line`, `read_line` |
 //! | after an error a beginning of such a list was written, for the events that the editor took | `Prompt::read_line`, `read_line` |
+//! | a text of another thread is printed between two frames, if the prompt has a printer: in the rows' place, in whole lines. A frame of the line follows it. No wait for an event takes one, and none changes the line | `Prompt::{read_line, read_hidden}` |
 //! | while an incremental search goes on, what it looks for is shown in the prompt's place, and no hint | `Prompt::{read_line, show}`, `read_line` |
 //! | candidates are listed in a frame behind two Tabs, and in no other | `Prompt::read_line` |
 //! | nothing is shown of a hidden line, or a star for each character; neither a hint nor a search is. It was typed in an editor of its own, which keeps no line | `Prompt::read_hidden` |
@@ -63,7 +64,8 @@
 //! written since the last one. (A bell, BEL, moves no cursor; the definitions of `screen` don't speak of it.) The cursor is behind what was
 //! printed before it. It is only tested that there are as many columns and rows as the window has, that a line is seen in one row in as many columns
 //! as have room, how many rows above its own are erased after a resize, and how often a terminal that doesn't answer is asked. So it is that several
-//! programs append whole lines to one history's file, and that a part of a line is cut off again.
+//! programs append whole lines to one history's file, and that a part of a line is cut off again; and that what is printed is each text that was
+//! handed over, once, in order, and as soon as it was.
 //!
 //! What to believe, in the order in which it reads (`specs/`), and the contracts that it is proved by:
 //!
@@ -97,6 +99,7 @@ mod histories;
 pub mod laws;
 mod listing;
 mod placing;
+mod printer;
 mod prompts;
 mod read;
 mod reflow;
@@ -109,6 +112,7 @@ pub use appending::LockFile;
 pub use asking::{Prompt, read_line};
 pub use helpers::Helper;
 pub use histories::HistoryFile;
+pub use printer::Printer;
 pub use prompts::{is_shown, search_text};
 pub use read::Read;
 pub use rows::Rows;

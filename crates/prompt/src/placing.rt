@@ -1,4 +1,4 @@
-//! What is asked of the terminal: the window's size, and where the cursor is.
+//! Questions to the terminal: the size of its window, and the place of its cursor.
 ghost use Rattle.std.specs.Prelude.{◌≡◌, ◌<◌, ◌≤◌, true, false, IfOk, IsTrue, is_some};
 ghost use Rattle.crossterm_read.specs.PassViews.{knows};
 ghost use Rattle.prompt.specs.Frames.{area_of};

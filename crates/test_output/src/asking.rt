@@ -2,6 +2,7 @@
 
 mod drawn;
 mod helped;
+mod printed;
 mod resized;
 mod rows;
 mod shown;

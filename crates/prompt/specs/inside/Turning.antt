@@ -36,7 +36,7 @@ IsTaken taken.Refused e w z = (is_too_long (event_more e w) w ≡ false) × (z �
 
 -- A turn leads on, to the line's end, or to an error.
 abbrev pub Leads : {S A : Type 0} → (S → List SourceAnswer → S → Type 0) → (S → List (Option Duration)) → (EditorState → Seen → Seen) → Known S → EditorState → Turn A → Known S → EditorState → Type 0
-Leads drawn asked given v w (turn.Going tab) u z = GoesOn drawn asked given v w u z
+Leads drawn asked given v w (turn.Going tab lists) u z = GoesOn drawn asked given v w u z
 Leads drawn asked given v w (turn.Ended read) u z = LineEnds drawn asked given v w (answer_seen read) u z
 Leads drawn asked given v w (turn.Failed error) u z = StopsAsking drawn asked given v w (error_kind error) u z
 
@@ -55,6 +55,6 @@ stage_after e a = cond (resizes e) (Resized a false) (Due a false)
 
 -- A turn leads on, to the line's end, or to an error, and what was written is known.
 abbrev pub LeadsShown : {S A : Type 0} → (S → List SourceAnswer → S → Type 0) → (S → List (Option Duration)) → PromptView → Known S → EditorState → Turn A → Known S → EditorState → Area → Option (List ℕ) → Option (List ℕ) → Type 0
-LeadsShown drawn asked look v w (turn.Going tab) u z a old new = GoesOnShown drawn asked look v w u z a tab old new
+LeadsShown drawn asked look v w (turn.Going tab lists) u z a old new = GoesOnShown drawn asked look v w u z a tab lists old new
 LeadsShown drawn asked look v w (turn.Ended read) u z a old new = LineEndsShown drawn asked look v w (answer_seen read) u z old new
 LeadsShown drawn asked look v w (turn.Failed error) u z a old new = StopsShown drawn asked look v w (error_kind error) u z old new

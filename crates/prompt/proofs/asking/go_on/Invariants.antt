@@ -12,7 +12,7 @@ invariant-loop g l = record {
   goes : GoesOn g.S.EventSource.drawn g.S.EventSource.asked (given_by (g.H.Helper.completes l.fn.prompt.helper.now)) (knows l.fn.tty.pass) l.fn.editor (knows l.tty.pass) l.editor;
   shown : (out : Option (List ℕ)) → (l.fn.rows.is_asked ≡ true → l.fn.prompt.asks ≡ true)
       → HasWritten (look_of (given_by (g.H.Helper.completes l.fn.prompt.helper.now)) (g.H.Helper.hints l.fn.prompt.helper.now) (g.H.Helper.candidates l.fn.prompt.helper.now) l.fn.prompt) l.fn.editor [] l.fn.editor (Shows (area_of l.fn.rows) false) out (g.W.Write.contents l.fn.tty.out)
-      → GoesOnShown g.S.EventSource.drawn g.S.EventSource.asked (look_of (given_by (g.H.Helper.completes l.fn.prompt.helper.now)) (g.H.Helper.hints l.fn.prompt.helper.now) (g.H.Helper.candidates l.fn.prompt.helper.now) l.fn.prompt) (knows l.fn.tty.pass) l.fn.editor (knows l.tty.pass) l.editor (area_of l.rows) l.tabbed out (g.W.Write.contents l.tty.out);
+      → GoesOnShown g.S.EventSource.drawn g.S.EventSource.asked (look_of (given_by (g.H.Helper.completes l.fn.prompt.helper.now)) (g.H.Helper.hints l.fn.prompt.helper.now) (g.H.Helper.candidates l.fn.prompt.helper.now) l.fn.prompt) (knows l.fn.tty.pass) l.fn.editor (knows l.tty.pass) l.editor (area_of l.rows) l.tabbed l.lists out (g.W.Write.contents l.tty.out);
   fewer : l.rows.is_asked ≡ true → l.fn.rows.is_asked ≡ true;
   features : l.tty.features ≡ l.fn.tty.features;
   mode : IsTrue (is_some l.fn.tty.term.prior) → l.tty.term.prior ≡ l.fn.tty.term.prior;

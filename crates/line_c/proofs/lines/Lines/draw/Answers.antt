@@ -20,7 +20,7 @@ returns-clause-shows c =
     let k = the_view c.self.inside in
     let names = ap (map (λ (n : Bor (List ℕ)). n.now)) (c.new-given.ensures.names ∙ c.deref.ensures.value) ∙ c.in_ok-names.ensures ∙ ap lines c.as_str.ensures.value in
     let look = look_is k p g (c.prompt_with-prompt.ensures.runs ∙ runs_are k _ _ c.as_str-3.ensures.value (ap (map run_of) c.deref-3.ensures.value ∙ c.in_ok-parts.ensures ∙ c.deref-2.ensures.value)) c.prompt_with-prompt.ensures.mask c.prompt_with-prompt.ensures.usual.0
-    c.prompt_with-prompt.ensures.usual.1 (c.new-given.ensures.hint ∙ c.as_str-2.ensures.value) c.new-given.ensures.listed names in
+    c.prompt_with-prompt.ensures.usual.1 c.prompt_with-prompt.ensures.usual.2 (c.new-given.ensures.hint ∙ c.as_str-2.ensures.value) c.new-given.ensures.listed names in
     subst (λ (x : LineState). OnOk c.show.result (Draws (shown_for (look_at x) (lists x.listed) x.editor) x.area b (Some x.output) (Some new))) c.self.view_is
     (subst (λ (v : PromptView). OnOk c.show.result (Draws (shown_for v (lists k.listed) k.editor) k.area b (Some k.output) (Some new))) look
     (subst (λ (listed : Bool). OnOk c.show.result (Draws (shown_for (look_with p g) listed k.editor) k.area b (Some k.output) (Some new))) c.lists-lists.ensures
