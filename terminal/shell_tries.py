@@ -304,9 +304,10 @@ def shell_prints_above_the_line():
         terminal.until(b'$ \x1b[0mecho un')
         terminal.send(b'done\r')
         terminal.until(b'\r\nundone\r\n')
-        # One that comes while no line is written is printed with the next key at the latest, and many of them lose no key.
+        # None of many texts is lost, and no key between them.
         for _ in range(20):
             terminal.send(b'later 0 again\r')
+        terminal.until(b'\x1b[Jagain\r\n', times=20)
         terminal.send(b'echo end\r')
         terminal.until(b'\r\nend\r\n')
         ends(terminal)

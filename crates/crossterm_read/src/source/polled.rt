@@ -75,6 +75,15 @@ impl<R: Read + AsRawFd + Drop, A: Allocator> PolledDevice<R, A> {
     }
 }
 
+// Whether a read into so many bytes took all that was there: it took some, and fewer than there was room for. A terminal that isn't in raw mode
+// returns a line at a time.
+fn is_all(answer: &io::Result<Answer>, room: usize) -> bool {
+    match answer {
+        Ok(Answer::Bytes { count, raw }) => *raw && *count > 0 && *count < room,
+        Ok(_) | Err(_) => false,
+    }
+}
+
 impl<R: Read + AsRawFd + Drop, A: Allocator + Clone> PolledDevice<R, A> {
     // Sizes come no more.
     fn end_sizes(&mut self)
@@ -149,7 +158,9 @@ impl<R: Read + AsRawFd + Drop, A: Allocator + Clone> PolledDevice<R, A> {
         if !ready.input {
             return Ok(Answer::Idle);
         }
-        read_once(&mut self.input, buf, &self.raw)
+        let answer = read_once(&mut self.input, buf, &self.raw);
+        self.watch.note_read(INPUT, is_all(&answer, buf.len()));
+        answer
     }
 }
 

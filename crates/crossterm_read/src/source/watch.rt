@@ -60,6 +60,8 @@ pub(crate) struct Watch {
     always: Ready,
     // What the system has said to be ready since it was asked.
     said: Ready,
+    // What the system has said to have ended, or to have failed.
+    ended: Ready,
 }
 
 impl Watch {
@@ -74,6 +76,7 @@ impl Watch {
             waker,
             always: Ready::NOTHING,
             said: Ready::NOTHING,
+            ended: Ready::NOTHING,
         })
     }
 
@@ -104,6 +107,14 @@ impl Watch {
         Ok(())
     }
 
+    /// Notes whether all that was there was read. Then the system needn't be asked anew, since it says what comes later by itself: each arrival is
+    /// an edge (`epoll(7)`). The end of what has ended already is none.
+    pub(crate) fn note_read(&mut self, token: Token, is_all: bool) {
+        if is_all && !self.ended.has(token) {
+            self.said.set(token, false);
+        }
+    }
+
     /// Watches a descriptor no longer.
     pub(crate) fn remove(&mut self, fd: RawFd, token: Token) {
         // One that was never watched isn't now.
@@ -125,12 +136,16 @@ impl Watch {
             poll,
             events,
             said,
+            ended,
             ..
         } = self;
         poll.poll(events, limit)?;
         for event in events.iter() {
             ready.set(event.token(), true);
             said.set(event.token(), true);
+            if event.is_read_closed() || event.is_error() {
+                ended.set(event.token(), true);
+            }
         }
         Ok(ready)
     }

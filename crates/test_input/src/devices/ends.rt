@@ -29,6 +29,13 @@ pub fn cooked(alloc: Global) -> io::Result<RawFlag> {
     RawFlag::new(alloc)
 }
 
+/// A flag that is true.
+fn raw(alloc: Global) -> io::Result<RawFlag> {
+    let flag = RawFlag::new(alloc)?;
+    flag.set(true);
+    Ok(flag)
+}
+
 /// A device over this input, and over what reports its sizes if there is something.
 pub fn polled<I: Read + AsRawFd + Drop, R: Net>(
     rt: &R,
@@ -52,6 +59,12 @@ pub fn piped_beside<R: Net + Files>(
 /// A device over a pipe.
 pub fn piped<R: Net + Files>(rt: &R, alloc: Global) -> io::Result<Piped> {
     piped_beside(rt, alloc, None)
+}
+
+/// A device over a pipe, in raw mode.
+pub fn raw_piped<R: Net + Files>(rt: &R, alloc: Global) -> io::Result<Piped> {
+    let (near, far) = io::pipe(rt)?;
+    Ok((PolledDevice::new(rt, alloc, near, raw(alloc)?, None)?, far))
 }
 
 /// What this end of a pipe reads, as a file.
@@ -105,6 +118,17 @@ pub fn connected<R: Net + Clock>(
     let near = TcpStream::from(near);
     near.set_nonblocking(false)?;
     Ok((polled(rt, alloc, near, None)?, far))
+}
+
+/// A polled device over a connection that blocks, in raw mode.
+pub fn raw_connected<R: Net + Clock>(
+    rt: &R,
+    alloc: Global,
+) -> io::Result<(PolledDevice<TcpStream>, TcpStream)> {
+    let (far, near) = connection(rt)?;
+    let near = TcpStream::from(near);
+    near.set_nonblocking(false)?;
+    Ok((PolledDevice::new(rt, alloc, near, raw(alloc)?, None)?, far))
 }
 
 /// A socket's device.

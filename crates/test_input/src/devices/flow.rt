@@ -123,5 +123,6 @@ fn flows<D: Device, W: Write + Send + Drop, R: Threads>(rt: &R, device: &mut D, 
 #[test]
 fn much_comes_through(rt: HostRuntime) -> io::Result<()> {
     expect_of_each!(rt; flows);
+    expect_of_each!(rt; flows, raw_piped, raw_connected);
     Ok(())
 }

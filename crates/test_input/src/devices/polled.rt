@@ -73,6 +73,7 @@ fn waits_and_answers<D: Device, W: Write + Drop, R: Clock>(
 #[test]
 fn pipes_connections_and_sockets_are_answered(rt: HostRuntime) -> io::Result<()> {
     expect_of_each!(rt; waits_and_answers);
+    expect_of_each!(rt; waits_and_answers, raw_piped, raw_connected);
     Ok(())
 }
 

@@ -64,6 +64,7 @@ fn wakes<D: Device + Send, W: Write + Drop, R: Threads + Clock + Sync>(
 #[test]
 fn pipes_connections_and_sockets_are_woken(rt: HostRuntime) -> io::Result<()> {
     expect_of_each!(rt; wakes);
+    expect_of_each!(rt; wakes, raw_piped, raw_connected);
     Ok(())
 }
 
