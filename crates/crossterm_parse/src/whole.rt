@@ -166,30 +166,29 @@ fn ended(readings: Readings, end: u8, count: usize, raw: bool) -> Option<WholeSe
     })
 }
 
-/// The numbered sequence in front, behind `ESC [`: of a number, of two with `;` between them, or of three with `:` before the third one.
+/// The numbered sequence in front, behind `ESC [`: of a number, of two with `;` between them, or of three with `:` before the third one. It calls
+/// `ended` once, since with three copies of that LLVM no longer inlines `control_in`, for its size.
 #[inline(always)]
 fn numbered_in(bytes: &[u8], raw: bool) -> Option<WholeSequence>
     ensures { IfSome result (λ it. EndsFrom Csi bytes.now raw it) }
 {
     let first = number_in(bytes)?;
-    if first.end != b';' {
+    let (readings, end, count) = if first.end != b';' {
         if first.value == 200 {
             return None;
         }
-        return ended(one(first), first.end, first.count, raw);
-    }
-    let mask = number_in(&bytes[first.count..])?;
-    let place = first.count + mask.count;
-    if mask.end != b':' {
-        return ended(two(first, mask), mask.end, place, raw);
-    }
-    let kind = number_in(&bytes[place..])?;
-    ended(
-        with_kind(first, mask, kind),
-        kind.end,
-        place + kind.count,
-        raw,
-    )
+        (one(first), first.end, first.count)
+    } else {
+        let mask = number_in(&bytes[first.count..])?;
+        let place = first.count + mask.count;
+        if mask.end != b':' {
+            (two(first, mask), mask.end, place)
+        } else {
+            let kind = number_in(&bytes[place..])?;
+            (with_kind(first, mask, kind), kind.end, place + kind.count)
+        }
+    };
+    ended(readings, end, count, raw)
 }
 
 /// Whether a sequence is whole with the byte behind `ESC [`.

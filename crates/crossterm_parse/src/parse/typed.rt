@@ -86,10 +86,11 @@ impl Typed {
         requires { length letters.now ≤ self.old.room }
         ensures { self.new.waiting ≡ self.old.waiting ++ letters.now }
     {
+        let start = self.end;
         for i in 0..letters.len() {
-            self.places[self.end + i] = char::from(letters[i]);
+            self.places[start + i] = char::from(letters[i]);
         }
-        self.end += letters.len();
+        self.end = start + letters.len();
     }
 
     /// If none waits, there is room for as many as at first.

@@ -1,4 +1,4 @@
-use Rattle.std.proofs.Common.{arith, ap, ap₂, length, take, drop, ◌≡◌, ◌+◌, ◌-◌, ◌++◌, ◌∙◌, ℕ, List}
+use Rattle.std.proofs.Common.{arith, ap, length, take, drop, ◌≡◌, ◌+◌, ◌-◌, ◌++◌, ◌∙◌, ℕ, List}
 use Rattle.std.proofs.lemmas.List.{take_all}
 use Rattle.crossterm_parse.specs.inside.Queue.{TypedView}
 use Rattle.crossterm_parse.proofs.QueueLaws.{more_between}
@@ -16,6 +16,6 @@ returns c =
     let is : take (old.end + count) new.places ≡ take old.end old.places ++ letters =
     ap (λ n. take n new.places) behind ∙ inv.places ∙ ap (λ (xs : List ℕ). take old.end old.places ++ xs) (take_all c.loop-i.i letters (omega (arith, all))) in
     let fits = c.self.invariant in
-    ap₂ (λ e a. take (e + count - a) (drop a new.places)) inv.end inv.at
+    ap (λ a. take (old.end + count - a) (drop a new.places)) inv.at
     ∙ more_between old.places new.places letters old.at old.end count fits.0 (omega (arith, fits.1, fits.2)) is
     ∙ ap (λ (t : TypedView). t.waiting ++ letters) c.self.view_is
