@@ -63,9 +63,9 @@ fn noted(text: String) -> Note
 /// ```
 /// let printer = Printer::new(alloc, tty.waker()?)?;
 /// let other = printer.share()?;
-/// let thread = thread::spawn(rt, move || other.print(&rt, "The build is done."))?;
+/// let thread = thread::spawn(&rt, move || other.print(&rt, "The build is done."))?;
 /// let prompt = Prompt::new("> ").with_printer(&printer);
-/// let read = prompt.read_line(rt, &mut tty, &mut editor)?;
+/// let read = prompt.read_line(&rt, &mut tty, &mut editor)?;
 /// ```
 #[derive(Drop)]
 pub struct Printer {
