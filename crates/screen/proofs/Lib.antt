@@ -22,6 +22,7 @@ pub mod Scans
 pub mod Crossings
 pub mod Putting
 pub mod Spares
+pub mod Places
 pub mod Skips
 pub mod Frames
 pub mod Written

@@ -1,5 +1,5 @@
 //! Bridges: cells that are printed again in place of a move over them.
-ghost use Rattle.std.specs.Prelude.{◌≡◌, ◌↔◌, ◌-◌, ◌<◌, ◌≤◌, ℕ, IfSome, IsTrue, List, Some, drop, length, take, true};
+ghost use Rattle.std.specs.Prelude.{◌≡◌, ◌↔◌, ◌%◌, ◌-◌, ◌<◌, ◌≤◌, ℕ, IfSome, IsTrue, List, Some, drop, length, take, true};
 ghost use Rattle.std.specs.List.{AllByRecursion};
 ghost use Rattle.screen.specs.Cells.{Cell as CellValue};
 ghost use Rattle.screen.specs.inside.Bridges.{Approaches, IsBare, IsBridge, IsNear};
@@ -99,7 +99,7 @@ fn is_at(cursor: Option<usize>, at: usize) -> bool
 
 /// Prints cells again if that is shorter than a move to a place. Returns whether the cursor is there then.
 #[inline(never)]
-fn cross<W: io::Write>(
+pub(crate) fn cross<W: io::Write>(
     writer: &mut W,
     pen: &mut Pen,
     after: &[Cell],
@@ -121,7 +121,8 @@ fn cross<W: io::Write>(
     }
 }
 
-/// The same. Most cells that are painted are right behind the one before, so that is looked at without a call.
+/// Does so for a place in rows of a width. Most cells that are painted are right behind the one before, so that is looked at without a call and
+/// without a division.
 #[inline]
 pub(crate) fn approach<W: io::Write>(
     writer: &mut W,
@@ -130,14 +131,16 @@ pub(crate) fn approach<W: io::Write>(
     cursor: Option<usize>,
     style: &Option<PackedStyle>,
     at: usize,
-    column: u16,
+    width: u16,
 ) -> bool
-    requires { at ≤ length after.now }
-    ensures { (cells : List CellValue) × Approaches after.now cursor style.now at column cells result
+    requires at { at ≤ length after.now }
+    requires width { 0 < width }
+    ensures { (cells : List CellValue) × Approaches after.now cursor style.now at (at % width) cells result
         × PutsStrokes (again_strokes cells) (W.contents writer.old) pen.old (W.contents writer.new) pen.new }
 {
     if is_at(cursor, at) {
         return true;
     }
+    let column = (at % usize::from(width)) as u16;
     cross(writer, pen, after, cursor, style, at, column)
 }

@@ -1,8 +1,10 @@
 //! Pens: strokes on their way to a writer.
-ghost use Rattle.std.specs.Prelude.{◌≡◌, ◌∷◌, [], List, None, OnErr, OnOk, Option, Some, ℕ};
+ghost use Rattle.std.specs.Prelude.{◌≡◌, ◌∷◌, [], IsTrue, List, None, OnErr, OnOk, Option, Some, false, ℕ};
 ghost use Rattle.screen.specs.inside.Blocks.{PutsTokens, step_tokens};
 ghost use Rattle.screen.specs.inside.Pens.{Breaks, Ends, PutsStrokes, PutsText};
+ghost use Rattle.screen.specs.declared.strokes.Stroke.TheVariants as stroke;
 
+use crate::cells::Cell;
 use crate::steps::Step;
 use crate::strokes::{Stroke, Written};
 use arrayvec::ArrayString;
@@ -83,6 +85,31 @@ pub(crate) fn put<W: io::Write>(writer: &mut W, pen: &mut Pen, stroke: Stroke)
         stroke: &stroke,
     };
     take(pen, &written);
+}
+
+/// Puts a cell's character behind what waits at once, if it is one of ASCII without marks and has room there. Returns whether it did.
+fn push(pen: &mut Pen, cell: &Cell) -> bool
+    ensures pushed { (known : Option (List ℕ)) → IsTrue result → PutsStrokes (stroke.Print cell.now.symbol cell.now.marks ∷ []) known pen.old known pen.new }
+    ensures kept { result ≡ false → pen.new ≡ pen.old }
+{
+    let symbol = cell.symbol();
+    if symbol < '\u{80}' && pen.fault.is_none() && cell.marks().is_empty() {
+        match pen.waiting.try_push(symbol) {
+            Ok(()) => true,
+            Err(_) => false,
+        }
+    } else {
+        false
+    }
+}
+
+/// Prints a cell's character and its marks.
+pub(crate) fn put_print<W: io::Write>(writer: &mut W, pen: &mut Pen, cell: &Cell)
+    ensures { PutsStrokes (stroke.Print cell.now.symbol cell.now.marks ∷ []) (W.contents writer.old) pen.old (W.contents writer.new) pen.new }
+{
+    if !push(pen, cell) {
+        put(writer, pen, Stroke::Print(cell.symbol(), cell.marks()));
+    }
 }
 
 /// Puts a step of a block behind the strokes before.

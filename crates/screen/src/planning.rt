@@ -1,5 +1,5 @@
 //! The strokes of a frame.
-ghost use Rattle.std.specs.Prelude.{◌≡◌, ◌⊎◌, ◌++◌, ◌+◌, ◌*◌, ◌<◌, ◌≤◌, ◌^◌, ◌↔◌, ⊤, Bool, ℕ, OnErr, OnOk, IfSome, IsTrue, List, ◌∷◌, [], get_or, length, slice_get, true, false, Some};
+ghost use Rattle.std.specs.Prelude.{◌≡◌, ◌⊎◌, ◌++◌, ◌+◌, ◌*◌, ◌/◌, ◌%◌, ◌<◌, ◌≤◌, ◌^◌, ◌↔◌, ⊤, Bool, ℕ, OnErr, OnOk, IfSome, IsTrue, List, ◌∷◌, [], get_or, length, slice_get, true, false, Some};
 ghost use Rattle.std.specs.Io.KnownBytes.{Appends};
 ghost use Rattle.std.specs.List.{All};
 ghost use Rattle.crossterm_command.specs.Tokens.{text_of};
@@ -16,11 +16,11 @@ ghost use Rattle.screen.specs.inside.Scans.{IsSized, Planned, PlannedNext, Visit
 ghost use Rattle.screen.specs.inside.Settings.{HasByteColors, Sets};
 ghost use Rattle.screen.specs.inside.Strokes.{AreFitting, again_strokes, cell_strokes, cursor_strokes, first_strokes, last_strokes, move_strokes, stop_strokes, style_strokes, written_of};
 
-use crate::bridges::approach;
+use crate::bridges::{approach, cross};
 use crate::cells::{Cell, is_covered};
 use crate::differences::next_difference;
 use crate::packed::PackedStyle;
-use crate::pens::{Pen, finish, put};
+use crate::pens::{Pen, finish, put, put_print};
 use crate::settings::{Setting, setting_of};
 use crate::starts::Start;
 use crate::strokes::Stroke;
@@ -31,9 +31,8 @@ use std::io;
 /// The column and the row of a place.
 fn place_of(at: usize, width: u16, height: u16) -> (u16, u16)
     requires { at < width * height }
-    ensures row { result.1 < height }
-    ensures column { result.0 < width }
-    ensures at { result.1 * width + result.0 ≡ at }
+    ensures row { result.1 ≡ at / width }
+    ensures column { result.0 ≡ at % width }
 {
     let width = width as usize;
     ((at % width) as u16, (at / width) as u16)
@@ -45,6 +44,17 @@ fn put_move<W: io::Write>(writer: &mut W, pen: &mut Pen, there: bool, place: (u1
 {
     if !there {
         put(writer, pen, Stroke::Move(place.0, place.1));
+    }
+}
+
+/// Moves the cursor to a place, unless it is there. The place's column and row are computed by divisions, so that is done for a move alone.
+fn put_place<W: io::Write>(writer: &mut W, pen: &mut Pen, there: bool, at: usize, size: (u16, u16))
+    requires { at < size.0 * size.1 }
+    ensures { PutsStrokes (move_strokes there (at % size.0) (at / size.0)) (W.contents writer.old) pen.old (W.contents writer.new) pen.new }
+{
+    if !there {
+        let place = place_of(at, size.0, size.1);
+        put_move(writer, pen, false, place);
     }
 }
 
@@ -65,14 +75,16 @@ fn paint<W: io::Write>(
     pen: &mut Pen,
     there: bool,
     setting: &Setting,
-    place: (u16, u16),
+    at: usize,
+    size: (u16, u16),
     cell: &Cell,
 )
-    ensures { PutsStrokes (cell_strokes there setting.now place.0 place.1 cell.now) (W.contents writer.old) pen.old (W.contents writer.new) pen.new }
+    requires { at < size.0 * size.1 }
+    ensures { PutsStrokes (cell_strokes there setting.now (at % size.0) (at / size.0) cell.now) (W.contents writer.old) pen.old (W.contents writer.new) pen.new }
 {
-    put_move(writer, pen, there, place);
+    put_place(writer, pen, there, at, size);
     put_style(writer, pen, setting);
-    put(writer, pen, Stroke::Print(cell.symbol(), cell.marks()));
+    put_print(writer, pen, cell);
 }
 
 /// The place of the cursor after a character, or none if that is a row's last.
@@ -143,7 +155,7 @@ fn scan<W: io::Write>(
         × PutsStrokes strokes (W.contents writer.old) pen.old (W.contents writer.new) pen.new }
     ensures shown { before.new ≡ after.now }
 {
-    let (width, height) = size;
+    let (width, _) = size;
     let mut cursor = start.cursor();
     let mut style = start.style();
     put_first(writer, pen, start);
@@ -152,12 +164,11 @@ fn scan<W: io::Write>(
         let cell = &after[at];
         before[at] = *cell;
         if !is_covered(cell) {
-            let place = place_of(at, width, height);
             // A copy is lent, so that `style` itself may stay in registers.
             let lent = style;
-            let there = approach(writer, pen, after, cursor, &lent, at, place.0);
+            let there = approach(writer, pen, after, cursor, &lent, at, width);
             let setting = setting_of(style, &cell.packed_style());
-            paint(writer, pen, there, &setting, place, cell);
+            paint(writer, pen, there, &setting, at, size, cell);
             style = Some(cell.packed_style());
             at = copy_second(before, after, at);
             cursor = right_of(at, width);
@@ -239,7 +250,7 @@ fn put_stop<W: io::Write>(
 {
     let plain = PackedStyle::new(&ContentStyle::new());
     let setting = setting_of(style, &plain);
-    let there = approach(
+    let there = cross(
         writer,
         pen,
         after,

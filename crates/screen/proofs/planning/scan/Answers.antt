@@ -1,4 +1,4 @@
-use Rattle.std.proofs.Common.{rules, ◌≡◌, ◌≢◌, ◌++◌, ◌+◌, ◌*◌, ◌<◌, ◌≤◌, ◌^◌, List, set, length, get_or, take, arith, true, false, sym, ap, ◌∙◌, subst, Some}
+use Rattle.std.proofs.Common.{rules, ◌≡◌, ◌≢◌, ◌++◌, ◌+◌, ◌*◌, ◌/◌, ◌%◌, ◌<◌, ◌≤◌, ◌^◌, List, set, length, get_or, take, arith, true, false, sym, ap, ◌∙◌, subst, Some}
 use Rattle.std.proofs.lemmas.List.{get_or_default}
 use Rattle.screen.specs.Cells.{FitsCell, IsPlaced, blank, is_covered, is_wide, last_place, shown_text}
 use Rattle.screen.specs.Grids.{is_last, right_of}
@@ -9,6 +9,7 @@ use Rattle.screen.specs.inside.Scans.{known_cursor, known_style}
 use Rattle.screen.specs.inside.Settings.{Sets}
 use Rattle.screen.specs.inside.Strokes.{AreFitting, again_strokes, cell_strokes, first_strokes}
 use Rattle.screen.proofs.Crossings.{approach_counted, approach_fitting, approach_reaches, comes}
+use Rattle.screen.proofs.Places.{column_below, place_there, row_below}
 use Rattle.screen.proofs.Putting.{puts_both}
 use Rattle.screen.proofs.Scans.{ends, paints, paints_counted, paints_fitting, starts, starts_counted, starts_fitting, placed_held, within_length}
 use Rattle.screen.proofs.Skips.{AreCopied, AreSame, Stage, copied_all, copied_more, copied_one, copied_same, copied_second, copied_start, last_from, stage_covered, stage_second, stage_skipped}
@@ -82,13 +83,16 @@ loop-at-preserved g c =
     let visited : (more : List Stroke) × Stage known w h before after more j.cursor j.style (j.at + 1) × AreFitting known more × PutsStrokes more old c.args.pen.now (held j.writer) j.pen × AreCopied before after j.before (j.at + 1) =
     elim c.if-not-is_covered.branch [
       | then-not-is_covered p ↦
-          let place = p.place_of-place.result in
+          let row = k / w in
+          let column = k % w in
+          let here : k < w * h = omega (arith, la, c.requires.length) in
+          let low : row < h = row_below w h k here in
+          let near : column < w = column_below w h k here in
           let there = p.approach-there.result in
           let (cells, way, puts) = p.approach-there.ensures in
           let again = again_strokes cells in
           let front = strokes ++ again in
-          let near : place.0 < w = p.place_of-place.ensures.column in
-          let (to, is_there, reached) = approach_reaches known w h place.1 place.0 before after k c.loop-at.cursor c.loop-at.style strokes cells there pa c.requires.fits (omega (arith, la)) p.place_of-place.ensures.at near way stage.reached in
+          let (to, is_there, reached) = approach_reaches known w h row column before after k c.loop-at.cursor c.loop-at.style strokes cells there pa c.requires.fits (omega (arith, la)) (place_there w k) near way stage.reached in
           let how = p.setting_of-setting.result in
           let second = p.copy_second-at in
           let last = second.result in
@@ -97,20 +101,20 @@ loop-at-preserved g c =
           let is_placed : IsPlaced cell = subst IsPlaced ec (c.requires.fits k cell la) in
           let fits : FitsCell (shown_text cell) = placed_held cell uncovered is_placed in
           let room : is_wide cell ≡ true → is_last w k ≡ false = λ y. c.requires.rows k cell la (ap is_wide ec ∙ y) in
-          let more = cell_strokes there how place.0 place.1 cell in
+          let more = cell_strokes there how column row cell in
           let next = right_of w (last_place k cell) in
           let is_last_place : last ≡ last_place k cell = second.ensures.value ∙ ap (last_place k) ed in
           let cursor : j.cursor ≡ next = ◌∙◌ {b = right_of w last} {c = next} (◌∙◌ {b = p.right_of-cursor.result} {c = right_of w last} p.cursor-is p.right_of-cursor.ensures) (ap (right_of w) is_last_place) in
           let set_now : j.style ≡ Some cell.style = search rules in
           let sets = subst (λ s. Sets c.loop-at.style s how) p.packed_style.ensures p.setting_of-setting.ensures.sets in
           let painted : Stage known w h before after (front ++ more) next (Some cell.style) (k + 1) = record {
-            reached = paints known k w h before after to c.loop-at.style front b cell there how place.1 place.0 kb la lb c.requires.length eb ec p.place_of-place.ensures.row p.place_of-place.ensures.column high wide
-                p.place_of-place.ensures.at sets p.setting_of-setting.ensures.fits fits uncovered room pb pa is_there reached;
+            reached = paints known k w h before after to c.loop-at.style front b cell there how row column kb la lb c.requires.length eb ec low near high wide
+                (place_there w k) sets p.setting_of-setting.ensures.fits fits uncovered room pb pa is_there reached;
             again = stage.again + length cells;
-            counted = paints_counted before after k (stage.again + length cells) front b cell there how place.1 place.0 kb la eb ec prints
-                (approach_counted (take k before) (take k after) after stage.again c.loop-at.cursor c.loop-at.style k place.0 cells there strokes way stage.counted);
-            sparing = spares_painted known w before after k stage.again c.loop-at.cursor c.loop-at.style strokes cells b cell there how place.0 place.1 kb la eb ec prints
-                (comes after c.loop-at.cursor c.loop-at.style k place.0 cells there (omega (arith, la)) way) sets stage.sparing;
+            counted = paints_counted before after k (stage.again + length cells) front b cell there how row column kb la eb ec prints
+                (approach_counted (take k before) (take k after) after stage.again c.loop-at.cursor c.loop-at.style k column cells there strokes way stage.counted);
+            sparing = spares_painted known w before after k stage.again c.loop-at.cursor c.loop-at.style strokes cells b cell there how column row kb la eb ec prints
+                (comes after c.loop-at.cursor c.loop-at.style k column cells there (omega (arith, la)) way) sets stage.sparing;
           } in
           let all : Stage known w h before after (front ++ more) next (Some cell.style) (last + 1) =
           stage_second known w h before after (front ++ more) next (Some cell.style) k last pb pa same_length la second.ensures.bound second.ensures.value painted in
@@ -123,8 +127,8 @@ loop-at-preserved g c =
             front ++ more,
             subst (λ n. Stage known w h before after (front ++ more) j.cursor j.style (n + 1)) (sym p.at-is)
                 (subst (λ o. Stage known w h before after (front ++ more) o j.style (last + 1)) (sym cursor) (subst (λ o. Stage known w h before after (front ++ more) next o (last + 1)) (sym set_now) all)),
-            paints_fitting known front there how place.0 place.1 cell (omega (arith, p.place_of-place.ensures.column, wide)) (omega (arith, p.place_of-place.ensures.row, high)) fits
-                (approach_fitting known after c.loop-at.cursor c.loop-at.style k place.0 cells there strokes c.requires.fits way inv.2),
+            paints_fitting known front there how column row cell (omega (arith, near, wide)) (omega (arith, low, high)) fits
+                (approach_fitting known after c.loop-at.cursor c.loop-at.style k column cells there strokes c.requires.fits way inv.2),
             subst (λ n. PutsStrokes (front ++ more) old c.args.pen.now (held n) j.pen) (sym p.writer-is) (subst (λ n. PutsStrokes (front ++ more) old c.args.pen.now (held p.paint.new.writer) n) (sym p.pen-is) put),
             subst (λ n. AreCopied before after j.before (n + 1)) (sym p.at-is) (subst (λ l. AreCopied before after l (last + 1)) (sym p.before-is) copies),
           )

@@ -10,7 +10,7 @@ use Rattle.screen.proofs.planning.scan.Given as goal
 abbrev pub invariant-loop-at : goal.invariant-loop-at
 invariant-loop-at g l =
     (strokes : List Stroke)
-    × Stage l.fn.start l.width l.height l.fn.before l.fn.after strokes l.cursor l.style l.at
+    × Stage l.fn.start l.fn.size.0 l.fn.size.1 l.fn.before l.fn.after strokes l.cursor l.style l.at
     × AreFitting l.fn.start strokes
     × PutsStrokes strokes (g.W.Write.contents l.fn.writer) l.fn.pen (g.W.Write.contents l.writer) l.pen
     × AreCopied l.fn.before l.fn.after l.before l.at
