@@ -9,5 +9,6 @@ pub mod Pictures
 pub mod Wrapping
 pub mod Frames
 pub mod Written
+pub mod Printing
 pub mod Histories
 pub mod inside

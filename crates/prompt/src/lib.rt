@@ -49,6 +49,7 @@
 //! | all that is written for a line is a list of pieces. A frame of the line follows each event that was taken, before the next one is read; an event that clears the window does so first. The bell rings at a text that is too long, and behind the frame at a search that finds nothing. After a resize comes an erasure from the first row on, or from above it, and before that at most the question for the cursor's place, if the prompt asks. Once the line has ended the rows are left once, as far as the writer goes | `Prompt::read_line`, `read_line` |
 //! | after an error a beginning of such a list was written, for the events that the editor took | `Prompt::read_line`, `read_line` |
 //! | a text of another thread is printed between two frames, if the prompt has a printer: in the rows' place, in whole lines. A frame of the line follows it. No wait for an event takes one, and none changes the line | `Prompt::{read_line, read_hidden}` |
+//! | a share of a printer prints at the same prompts, and wakes the same | `Printer::share` |
 //! | while an incremental search goes on, what it looks for is shown in the prompt's place, and no hint | `Prompt::{read_line, show}`, `read_line` |
 //! | candidates are listed in a frame behind two Tabs, and in no other | `Prompt::read_line` |
 //! | nothing is shown of a hidden line, or a star for each character; neither a hint nor a search is. It was typed in an editor of its own, which keeps no line | `Prompt::read_hidden` |
@@ -82,6 +83,7 @@
 //! | `Wrapping` | which cells show a line in several rows | `Rows::{draw, draw_next}`, `Prompt::read_line`, `read_line` |
 //! | `Frames` | what is written to show a line: a frame of the rows, the bell, an erasure, and what leaves the rows | `Rows`, `Prompt::read_line`, `read_line` |
 //! | `Written` | what is written while a line is asked for, piece by piece | `Prompt::{read_line, read_hidden, show}`, `read_line` |
+//! | `Printing` | which printers print at the same prompts | `Printer::share` |
 //! | `Histories` | the lines that are appended to a history's file | `HistoryFile` |
 //!
 //! `specs/inside/` says the same of a part, and no public clause cites it.

@@ -1,8 +1,9 @@
 //! Texts that other threads print above the line.
-ghost use Rattle.std.specs.Prelude.{◌≡◌, ℕ, IfErr, IfOk, IfSome, List, string_bytes};
+ghost use Rattle.std.specs.Prelude.{◌≡◌, ℕ, IfErr, IfOk, List, string_bytes};
 ghost use Rattle.std.specs.IoError.{error_kind};
 ghost use Rattle.std.specs.declared.io.ErrorKind.TheVariants.{OutOfMemory};
 ghost use Rattle.prompt.specs.Frames.{in_lines};
+ghost use Rattle.prompt.specs.Printing.{PrintsAs};
 
 use crossbeam_queue::SegQueue;
 use crossterm::event::source::Waker;
@@ -84,7 +85,9 @@ impl Printer {
     /// ```
     /// let printer = Printer::new(alloc, tty.waker()?)?;
     /// ```
-    pub fn new(alloc: Global, waker: Waker) -> Result<Printer, AllocError> {
+    pub fn new(alloc: Global, waker: Waker) -> Result<Printer, AllocError>
+        ensures { IfOk result (λ printer. printer.waker ≡ waker) }
+    {
         let notes = Arc::new(alloc, SegQueue::new(alloc)?)?;
         Ok(Printer {
             alloc,
@@ -103,6 +106,7 @@ impl Printer {
     /// let other = printer.share()?;
     /// ```
     pub fn share(&self) -> io::Result<Printer>
+        ensures same { IfOk result (PrintsAs self.now) }
         ensures err { IfErr result (λ e. error_kind e ≡ OutOfMemory) }
     {
         let waker = self.waker.share()?;
